@@ -1,0 +1,63 @@
+-- A row at the front of a table, zeros behind it up to the table's size.
+--     over-self, over-take, over-drop, over-rest, over-length     what stands where
+--     over-over                                                   the last row counts
+--     over-stored, over-set                                       entries stored behind a row, or in it
+-- Assumes nothing.
+use mathlib.Core.Path.{_≡_, refl, ap, sym, _∙_}
+use mathlib.Core.Bool.{Bool, true}
+use mathlib.Core.List.{List, [], _∷_, _++_, append-assoc}
+use Prim.Native.Nat.{ℕ, zero, suc, _+_, _-_, _≤_, _<_}
+use native.Mathlib.Omega.{arith}
+use lib.ListN.{length, take, drop, set, replicate, take-append-drop, length-append, length-drop, length-replicate, replicate-append-replicate}
+use lib.Seq.{drop-drop, take-at, drop-at, length-take-le, set-append-left, drop-append-add}
+use Rattle.tables.specs.Tables.{stretch}
+use Rattle.tables.specs.Spread.{over}
+use Rattle.tables.specs.WellFormed.{allOf}
+use Rattle.tables.proofs.Laws.Tests.{all-same}
+use Rattle.tables.proofs.Laws.Cuts.{stretch-length}
+
+three : {A : Type 0} (n size : ℕ) (t : List A) → n ≤ size → take n t ++ (stretch n size t ++ drop size t) ≡ t
+three n size t h =
+    let b : n + (size - n) ≡ size = omega arith in
+    let c : drop size t ≡ drop (size - n) (drop n t) = rw (drop-drop (size - n) n t, b) in
+    rw (c, take-append-drop (size - n) (drop n t), take-append-drop n t)
+
+module _ {A : Type 0} (z : A) (size : ℕ) where
+  -- a table whose entries from n up to its size are z is its first n entries over itself
+  pub over-self : (P : A → Bool) → ((x : A) → P x ≡ true → x ≡ z) → (n : ℕ) (t : List A) → n ≤ size → size ≤ length t
+      → allOf P (stretch n size t) ≡ true → over size z (take n t) t ≡ t
+  unfolding over
+  over-self P f n t h k e =
+      let a : stretch n size t ≡ replicate (size - n) z = all-same P z f (stretch n size t) e ∙ ap (λ i. replicate i z) (stretch-length n size t k) in
+      rw (length-take-le n t (omega arith), ← a) (three n size t h)
+
+  pub over-length : (row t : List A) → length row ≤ size → size ≤ length t → length (over size z row t) ≡ length t
+  unfolding over
+  over-length row t h k =
+      omega (
+        arith,
+        length-append row (replicate (size - length row) z ++ drop size t),
+        length-append (replicate (size - length row) z) (drop size t),
+        length-replicate (size - length row) z,
+        length-drop size t,
+      )
+
+  pub over-take : (row t : List A) → take (length row) (over size z row t) ≡ row
+  unfolding over
+  over-take row t = take-at row (replicate (size - length row) z ++ drop size t) (length row) refl
+
+  pub over-drop : (row t : List A) → length row ≤ size → drop size (over size z row t) ≡ drop size t
+  unfolding over
+  over-drop row t h =
+      rw (← append-assoc)
+      (drop-at (row ++ replicate (size - length row) z) (drop size t) size (omega (arith, length-append row (replicate (size - length row) z), length-replicate (size - length row) z)))
+
+  pub over-over : (row′ row t : List A) → length row ≤ size → over size z row′ (over size z row t) ≡ over size z row′ t
+  unfolding over
+  over-over row′ row t h = rw (over-drop row t h)
+
+  pub over-rest : (row t : List A) → stretch (length row) size (over size z row t) ≡ replicate (size - length row) z
+  unfolding over
+  over-rest row t =
+      rw (drop-at row (replicate (size - length row) z ++ drop size t) (length row) refl)
+      (take-at (replicate (size - length row) z) (drop size t) (size - length row) (length-replicate (size - length row) z))
