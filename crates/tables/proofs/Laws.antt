@@ -5,3 +5,4 @@ pub mod Formed
 pub mod Held
 pub mod Universals
 pub mod Valid
+pub mod Spread

@@ -4,7 +4,7 @@
 --     countsFit            1, 2, 4: `withinLimits`, `boundInUse`, `clausesAddUp`
 --     endsRise             5
 --     clausesFit           6 to 9: `ascending`, `narrow`, `overKinds`
---     variablesFit         3, 10 to 14: `universalsIn`, `universalBits`, `otherInside`, `isKind`, `undeclaredBare`, `forksAbove`
+--     variablesFit         3, 10 to 14: `universalsIn` (dqbf), `universalBits`, `otherInside`, `isKind`, `undeclaredBare`, `forksAbove`
 --     emptyTold, restZero  15, 16
 --     wellFormed, valid
 -- Assumes nothing.
@@ -97,16 +97,20 @@ emptyTold s Cs = eqb (s .empty .0) (emptyFrom 1 Cs)
 unfoldable pub lowest : ℕ → Set
 lowest n = 2 ^ n - 1
 
--- "the universals' sets are single different bits that fill the lowest places", beside those seen before
-unfoldable pub universalBits : Set → ℕ → List ℕ → List Set → Bool
-universalBits seen n [] sets = eqb seen (lowest n)
-universalBits seen n (k ∷ kinds) [] = eqb seen (lowest n)
-universalBits seen n (k ∷ kinds) (s ∷ sets) =
-    cond (eqb k 1) (eqb (size s) 1 && (eqb (common seen s) emptySet && universalBits (union seen s) n kinds sets)) (universalBits seen n kinds sets)
+-- a single bit, other than those seen before
+unfoldable pub newBit : Set → Set → Bool
+newBit seen s = eqb (size s) 1 && eqb (common seen s) emptySet
+
+-- "the universals' sets are single different bits that fill the lowest places", together with those seen before
+unfoldable pub universalBits : Set → Set → List ℕ → List Set → Bool
+universalBits seen places [] sets = eqb seen places
+universalBits seen places (k ∷ kinds) [] = eqb seen places
+universalBits seen places (k ∷ kinds) (s ∷ sets) =
+    cond (eqb k 1) (newBit seen s && universalBits (union seen s) places kinds sets) (universalBits seen places kinds sets)
 
 -- "every other declared or fork set lies inside these"
-unfoldable pub otherInside : ℕ → ℕ → Set → Bool
-otherInside n k s = cond (leb 2 k) (inside s (lowest n)) true
+unfoldable pub otherInside : Set → ℕ → Set → Bool
+otherInside places k s = cond (leb 2 k) (inside s places) true
 
 -- "kinds are 0 to 3"
 unfoldable pub isKind : ℕ → Bool
@@ -116,7 +120,7 @@ isKind k = leb k 3
 unfoldable pub undeclaredBare : ℕ → Set → Bool
 undeclaredBare k s = cond (eqb k 0) (eqb s emptySet) true
 
--- "kind 3 stands on all numbers above V in use and nowhere else": bound is what is left of V
+-- "kind 3 stands on all numbers above V in use and nowhere else": the bound is what is left of V
 unfoldable pub forksAbove : ℕ → List ℕ → Bool
 forksAbove bound [] = true
 forksAbove zero (k ∷ kinds) = eqb k 3 && forksAbove zero kinds
@@ -125,7 +129,7 @@ forksAbove (suc bound) (k ∷ kinds) = not (eqb k 3) && forksAbove bound kinds
 -- with "the universals are the entries of kind 1"
 unfoldable pub variablesFit : ℕ → ℕ → List ℕ → List Set → Bool
 variablesFit bound universals kinds sets =
-    every (eqb (universalsIn kinds) universals ∷ universalBits emptySet universals kinds sets ∷ allVariables (otherInside universals) kinds sets
+    every (eqb (universalsIn kinds) universals ∷ universalBits emptySet (lowest universals) kinds sets ∷ allVariables (otherInside (lowest universals)) kinds sets
     ∷ allOf isKind kinds ∷ allVariables undeclaredBare kinds sets ∷ forksAbove bound kinds ∷ [])
 
 -- ---- "all entries between the counts and the table's size above are 0"

@@ -2,6 +2,8 @@
 --     held          the tables are that model's, spread over themselves
 --     state-is      the state is the model's
 --     kinds-is, sets-is, clauses-is     the model's rows are the entries in use
+--     even-is       it has a set for each kind
+--     count-kinds, count-formula, count-universals     its counts
 -- Assumes nothing.
 use mathlib.Core.Path.{_≡_, refl, ap, sym, _∙_}
 use mathlib.Core.Bool.{Bool, true, false, not, _&&_}
@@ -97,13 +99,16 @@ module _ (t : Tables) (s : State) (L : Long t) (F : Formed t s) where
 
   -- ---- the counts
 
-  count-kinds : length (modelIn t s .kinds) ≡ s .bound .0
+  pub count-kinds : length (modelIn t s .kinds) ≡ s .bound .0
   unfolding modelIn
   count-kinds = length-take-le (s .bound .0) (kindsIn t s) (omega (arith, F .counts .in-use, kinds-length))
 
   count-sets : length (modelIn t s .sets) ≡ s .bound .0
   unfolding modelIn
   count-sets = length-take-le (s .bound .0) (setsIn t s) (omega (arith, F .counts .in-use, sets-length))
+
+  pub even-is : length (modelIn t s .sets) ≡ length (modelIn t s .kinds)
+  even-is = count-sets ∙ sym count-kinds
 
   count-forks : length (modelIn t s .forks) ≡ s .variables .0 - s .bound .0
   unfolding modelIn
@@ -112,7 +117,7 @@ module _ (t : Tables) (s : State) (L : Long t) (F : Formed t s) where
   clauses-length : length (clausesIn t s) ≡ s .clauses .0
   clauses-length = cut-length 0 (endsIn t s) (t .literals) ∙ ends-length
 
-  count-formula : length (modelIn t s .formula) ≡ s .formula .0
+  pub count-formula : length (modelIn t s .formula) ≡ s .formula .0
   unfolding modelIn
   count-formula = length-take-le (s .formula .0) (clausesIn t s) (omega (arith, F .counts .adds, clauses-length))
 
@@ -124,7 +129,7 @@ module _ (t : Tables) (s : State) (L : Long t) (F : Formed t s) where
   count-literals =
       sym (flat-length (clauses (modelIn t s))) ∙ ap length flat-is ∙ length-take-le (s .literals) (t .literals) (omega (arith, F .counts .literals, L .literals))
 
-  count-universals : universalCount (modelIn t s) ≡ s .universals
+  pub count-universals : universalCount (modelIn t s) ≡ s .universals
   unfolding universalCount variablesFit
   count-universals =
       sym (universals-threes (modelIn t s .kinds) (length (modelIn t s .forks))) ∙ ap universalsIn row ∙ eqb-true _ _ (every-at _ (F .variables) 0)

@@ -20,7 +20,7 @@ use lib.Pow.{pow-pos}
 use Rattle.dqbf.specs.Set.{Set, bit, single, union}
 use Rattle.dqbf.proofs.Words.{bit-zero, bit-and, bit-or, bit-ext, bit-single}
 use Rattle.dqbf.proofs.Counting.{single-one}
-use Rattle.tables.specs.WellFormed.{lowest, universalBits}
+use Rattle.tables.specs.WellFormed.{lowest, newBit, universalBits}
 use Rattle.tables.proofs.Laws.Tests.{and-left, and-right, and-both}
 
 -- ---- sets of one place
@@ -138,28 +138,26 @@ pub record Bits (n seen : ℕ) (kinds sets : List ℕ) : Type 0 where
 
 module _ (n : ℕ) where
   -- what the test says of the variable in front: it is a universal with a new place, or none
-  front : {P : Type 0} (seen k s : ℕ) (kinds sets : List ℕ) → universalBits seen n (k ∷ kinds) (s ∷ sets) ≡ true
-      → (k ≡ 1 → (j : ℕ) → s ≡ single j → bit seen j ≡ false → universalBits (union seen (single j)) n kinds sets ≡ true → P)
-      → ((k ≡ 1 → ⊥) → universalBits seen n kinds sets ≡ true → P) → P
-  unfolding universalBits
+  front : {P : Type 0} (seen k s : ℕ) (kinds sets : List ℕ) → universalBits seen (lowest n) (k ∷ kinds) (s ∷ sets) ≡ true
+      → (k ≡ 1 → (j : ℕ) → s ≡ single j → bit seen j ≡ false → universalBits (union seen (single j)) (lowest n) kinds sets ≡ true → P)
+      → ((k ≡ 1 → ⊥) → universalBits seen (lowest n) kinds sets ≡ true → P) → P
+  unfolding universalBits newBit
   front {P} seen k s kinds sets e universal other = go (eqb k 1) refl e
     where
-      go : (b : Bool) → eqb k 1 ≡ b
-          → cond b (eqb (ones s) 1 && (eqb (bitAnd seen s) 0 && universalBits (bitOr seen s) n kinds sets)) (universalBits seen n kinds sets) ≡ true → P
+      go : (b : Bool) → eqb k 1 ≡ b → cond b (newBit seen s && universalBits (bitOr seen s) (lowest n) kinds sets) (universalBits seen (lowest n) kinds sets) ≡ true → P
       go false q e = other (eqb-false k 1 q) e
       go true q e =
-          let w = and-right (eqb (ones s) 1) (eqb (bitAnd seen s) 0 && universalBits (bitOr seen s) n kinds sets) e in
-          let one = eqb-true (ones s) 1 (and-left (eqb (ones s) 1) (eqb (bitAnd seen s) 0 && universalBits (bitOr seen s) n kinds sets) e) in
-          let none = eqb-true (bitAnd seen s) 0 (and-left (eqb (bitAnd seen s) 0) (universalBits (bitOr seen s) n kinds sets) w) in
+          let w = and-left (newBit seen s) (universalBits (bitOr seen s) (lowest n) kinds sets) e in
+          let one = eqb-true (ones s) 1 (and-left (eqb (ones s) 1) (eqb (bitAnd seen s) 0) w) in
+          let none = eqb-true (bitAnd seen s) 0 (and-right (eqb (ones s) 1) (eqb (bitAnd seen s) 0) w) in
           let r = fresh seen s one none in
-          universal (eqb-true k 1 q) (r .0) (r .1) (r .2)
-          (rw (r .1) at (and-right (eqb (bitAnd seen s) 0) (universalBits (bitOr seen s) n kinds sets) w))
+          universal (eqb-true k 1 q) (r .0) (r .1) (r .2) (rw (r .1) at (and-right (newBit seen s) (universalBits (bitOr seen s) (lowest n) kinds sets) e))
 
   -- a place that was seen is one of the lowest
   at-end : (seen : ℕ) → eqb seen (lowest n) ≡ true → (i : ℕ) → bit seen i ≡ ltb i n
   at-end seen e i = ap (λ x. bit x i) (eqb-true seen (lowest n) e) ∙ lowest-bit n i
 
-  bits-seen : (seen : ℕ) (kinds sets : List ℕ) → universalBits seen n kinds sets ≡ true → (i : ℕ) → bit seen i ≡ true → i < n
+  bits-seen : (seen : ℕ) (kinds sets : List ℕ) → universalBits seen (lowest n) kinds sets ≡ true → (i : ℕ) → bit seen i ≡ true → i < n
   unfolding universalBits
   bits-seen seen [] sets e i h = ltb-true i n (sym (at-end seen e i) ∙ h)
   bits-seen seen (k ∷ kinds) [] e i h = ltb-true i n (sym (at-end seen e i) ∙ h)
@@ -167,7 +165,7 @@ module _ (n : ℕ) where
       front seen k s kinds sets e (λ q j d u r. bits-seen (union seen (single j)) kinds sets r i (holds-old seen j i h)) (λ q r. bits-seen seen kinds sets r i h)
 
   -- a universal's set is a single bit of the lowest places
-  bits-sole : (seen : ℕ) (kinds sets : List ℕ) → length sets ≡ length kinds → universalBits seen n kinds sets ≡ true
+  bits-sole : (seen : ℕ) (kinds sets : List ℕ) → length sets ≡ length kinds → universalBits seen (lowest n) kinds sets ≡ true
       → (i : ℕ) → i < length kinds → getD kinds i 0 ≡ 1 → (j : ℕ) × (j < n) × (getD sets i 0 ≡ single j) × (bit seen j ≡ false)
   bits-sole seen [] sets l e i h q = absurd (not-suc-le-zero h)
   bits-sole seen (k ∷ kinds) [] l e i h q = absurd (omega arith)
@@ -179,12 +177,12 @@ module _ (n : ℕ) where
       (λ p r. bits-sole seen kinds sets (omega arith) r i (le-of-suc-le-suc h) q)
 
   -- a set in front is none behind it
-  first-differs : (seen j : ℕ) (kinds sets : List ℕ) → length sets ≡ length kinds → universalBits (union seen (single j)) n kinds sets ≡ true
+  first-differs : (seen j : ℕ) (kinds sets : List ℕ) → length sets ≡ length kinds → universalBits (union seen (single j)) (lowest n) kinds sets ≡ true
       → (i : ℕ) → i < length kinds → getD kinds i 0 ≡ 1 → single j ≡ getD sets i 0 → ⊥
   first-differs seen j kinds sets l r i h q d =
       let g = bits-sole (union seen (single j)) kinds sets l r i h q in apart seen j (g .0) (g .3) (single-one j (g .0) (d ∙ g .2))
 
-  bits-different : (seen : ℕ) (kinds sets : List ℕ) → length sets ≡ length kinds → universalBits seen n kinds sets ≡ true
+  bits-different : (seen : ℕ) (kinds sets : List ℕ) → length sets ≡ length kinds → universalBits seen (lowest n) kinds sets ≡ true
       → (i i′ : ℕ) → i < length kinds → i′ < length kinds → getD kinds i 0 ≡ 1 → getD kinds i′ 0 ≡ 1 → getD sets i 0 ≡ getD sets i′ 0 → i ≡ i′
   bits-different seen [] sets l e i i′ h h′ q q′ d = absurd (not-suc-le-zero h)
   bits-different seen (k ∷ kinds) [] l e i i′ h h′ q q′ d = absurd (omega arith)
@@ -198,7 +196,7 @@ module _ (n : ℕ) where
       (λ p j w u r. ap suc (bits-different (union seen (single j)) kinds sets (omega arith) r i i′ (le-of-suc-le-suc h) (le-of-suc-le-suc h′) q q′ d))
       (λ p r. ap suc (bits-different seen kinds sets (omega arith) r i i′ (le-of-suc-le-suc h) (le-of-suc-le-suc h′) q q′ d))
 
-  bits-filled : (seen : ℕ) (kinds sets : List ℕ) → length sets ≡ length kinds → universalBits seen n kinds sets ≡ true
+  bits-filled : (seen : ℕ) (kinds sets : List ℕ) → length sets ≡ length kinds → universalBits seen (lowest n) kinds sets ≡ true
       → (j : ℕ) → j < n → bit seen j ≡ false → Taken kinds sets j
   unfolding universalBits
   bits-filled seen [] sets l e j h o = absurd (true≢false (sym (lt-ltb j n h) ∙ sym (at-end seen e j) ∙ o))
@@ -212,7 +210,7 @@ module _ (n : ℕ) where
       here p a w true q f = (0, omega arith, p, w ∙ ap (λ x. 2 ^ x) (eqb-true a j q))
       here p a w false q f = behind k s kinds sets j (f (eqb-false a j q))
 
-  pub bits-is : (seen : ℕ) (kinds sets : List ℕ) → length sets ≡ length kinds → universalBits seen n kinds sets ≡ true → Bits n seen kinds sets
+  pub bits-is : (seen : ℕ) (kinds sets : List ℕ) → length sets ≡ length kinds → universalBits seen (lowest n) kinds sets ≡ true → Bits n seen kinds sets
   bits-is seen kinds sets l e = record {
     low = bits-seen seen kinds sets e;
     sole = bits-sole seen kinds sets l e;
@@ -260,19 +258,19 @@ module _ (n : ℕ) where
       go i false true e g = absurd (not-suc-le-zero (f .filled i (ltb-true i n g) e .1))
       go i false false e g = refl
 
-  pub bits-from : (seen : ℕ) (kinds sets : List ℕ) → length sets ≡ length kinds → Bits n seen kinds sets → universalBits seen n kinds sets ≡ true
-  unfolding universalBits
+  pub bits-from : (seen : ℕ) (kinds sets : List ℕ) → length sets ≡ length kinds → Bits n seen kinds sets → universalBits seen (lowest n) kinds sets ≡ true
+  unfolding universalBits newBit
   bits-from seen [] sets l f = full seen sets f
   bits-from seen (k ∷ kinds) [] l f = absurd (omega arith)
   bits-from seen (k ∷ kinds) (s ∷ sets) l f =
       go (eqb k 1) refl (λ j r. bits-from (union seen (single j)) kinds sets (omega arith) r) (λ r. bits-from seen kinds sets (omega arith) r)
     where
-      go : (b : Bool) → eqb k 1 ≡ b → ((j : ℕ) → Bits n (union seen (single j)) kinds sets → universalBits (union seen (single j)) n kinds sets ≡ true)
-          → (Bits n seen kinds sets → universalBits seen n kinds sets ≡ true)
-          → cond b (eqb (ones s) 1 && (eqb (bitAnd seen s) 0 && universalBits (bitOr seen s) n kinds sets)) (universalBits seen n kinds sets) ≡ true
+      go : (b : Bool) → eqb k 1 ≡ b → ((j : ℕ) → Bits n (union seen (single j)) kinds sets → universalBits (union seen (single j)) (lowest n) kinds sets ≡ true)
+          → (Bits n seen kinds sets → universalBits seen (lowest n) kinds sets ≡ true)
+          → cond b (newBit seen s && universalBits (bitOr seen s) (lowest n) kinds sets) (universalBits seen (lowest n) kinds sets) ≡ true
       go true q ih ih′ =
           let r = f .sole 0 (omega arith) (eqb-true k 1 q) in
           rw (r .2)
-          (and-both (eq-eqb (ones (2 ^ r .0)) 1 (single-size (r .0)))
-          (and-both (eq-eqb (bitAnd seen (2 ^ r .0)) 0 (fresh-back seen (r .0) (r .3))) (ih (r .0) (rest-universal seen k s kinds sets f (eqb-true k 1 q) (r .0) (r .1) (r .2) (r .3)))))
+          (and-both (and-both (eq-eqb (ones (2 ^ r .0)) 1 (single-size (r .0))) (eq-eqb (bitAnd seen (2 ^ r .0)) 0 (fresh-back seen (r .0) (r .3))))
+          (ih (r .0) (rest-universal seen k s kinds sets f (eqb-true k 1 q) (r .0) (r .1) (r .2) (r .3))))
       go false q ih ih′ = ih′ (rest-other seen k s kinds sets f (eqb-false k 1 q))

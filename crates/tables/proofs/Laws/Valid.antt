@@ -199,7 +199,7 @@ module _ (m : Model) (e : valid m ≡ true) where
           let same : r .0 ≡ i = eqb-true (r .0) i (sym (bit-single (r .0) i) ∙ ap (λ s. bit s i) (sym (r .2)) ∙ b) in
           omega (arith, r .1)
       go (suc (suc k)) q =
-          let p = variables-at (otherInside (universalCount m)) (kindRow m) (setRow m) rows (every-at _ variable-test 2) x (inside-row (kindRow m) x (suc k) q) in
+          let p = variables-at (otherInside (lowest (universalCount m))) (kindRow m) (setRow m) rows (every-at _ variable-test 2) x (inside-row (kindRow m) x (suc k) q) in
           let t : leb 2 (suc (suc k)) ≡ true = le-leb 2 (suc (suc k)) (omega arith) in
           ltb-true i _ (sym (lowest-bit (universalCount m) i) ∙ bit-inside (getD (setRow m) x 0) (lowest (universalCount m)) .0 (rw (q, t) at p) i b)
 
@@ -314,7 +314,7 @@ module _ (m : Model) (v : Valid tables m) where
       place j (zero, q, d) = absurd (omega arith)
       place j (suc i, q, d) = (i, inside-row (kindRow m) i 0 q, q, d)
 
-  inside-from : (i : ℕ) → i < length (kindRow m) → otherInside (universalCount m) (getD (kindRow m) i 0) (getD (setRow m) i 0) ≡ true
+  inside-from : (i : ℕ) → i < length (kindRow m) → otherInside (lowest (universalCount m)) (getD (kindRow m) i 0) (getD (setRow m) i 0) ≡ true
   unfolding otherInside setOf setRow
   inside-from i h = go (leb 2 (getD (kindRow m) i 0))
     where
@@ -345,7 +345,7 @@ module _ (m : Model) (v : Valid tables m) where
     (
       bits-from (universalCount m) emptySet (kindRow m) (setRow m) rows-even bits-hold,
       (
-        variables-from (otherInside (universalCount m)) (kindRow m) (setRow m) rows-even inside-from,
+        variables-from (otherInside (lowest (universalCount m))) (kindRow m) (setRow m) rows-even inside-from,
         (
           kinds-from,
           (
