@@ -6,3 +6,4 @@ pub mod Held
 pub mod Universals
 pub mod Valid
 pub mod Spread
+pub mod Adding

@@ -7,11 +7,13 @@ use mathlib.Core.Path.{_≡_, refl, ap, sym, _∙_}
 use mathlib.Core.Bool.{Bool, true}
 use mathlib.Core.List.{List, [], _∷_, _++_, append-assoc}
 use Prim.Native.Nat.{ℕ, zero, suc, _+_, _-_, _≤_, _<_}
+use native.Mathlib.Numerals.{add-one}
 use native.Mathlib.Omega.{arith}
-use lib.ListN.{length, take, drop, set, replicate, take-append-drop, length-append, length-drop, length-replicate, replicate-append-replicate}
-use lib.Seq.{drop-drop, take-at, drop-at, length-take-le, set-append-left, drop-append-add}
+use lib.ListN.{length, take, drop, set, replicate, take-append-drop, length-append, length-drop, length-replicate, length-set, replicate-append-replicate}
+use lib.Seq.{drop-drop, take-at, drop-at, length-take-le, set-append-left, set-split, drop-append-add}
 use Rattle.tables.specs.Tables.{stretch}
 use Rattle.tables.specs.Spread.{over}
+use Rattle.tables.specs.Adding.{stored}
 use Rattle.tables.specs.WellFormed.{allOf}
 use Rattle.tables.proofs.Laws.Tests.{all-same}
 use Rattle.tables.proofs.Laws.Cuts.{stretch-length}
@@ -61,3 +63,37 @@ module _ {A : Type 0} (z : A) (size : ℕ) where
   over-rest row t =
       rw (drop-at row (replicate (size - length row) z ++ drop size t) (length row) refl)
       (take-at (replicate (size - length row) z) (drop size t) (size - length row) (length-replicate (size - length row) z))
+
+  -- entries stored behind the row
+  pub over-stored : (row xs t : List A) → length row + length xs ≤ size → stored (over size z row t) (length row) xs ≡ over size z (row ++ xs) t
+  unfolding over stored
+  over-stored row xs t h =
+      let m = size - (length row + length xs) in
+      let a : size - length row ≡ length xs + m = omega arith in
+      rw (length-append row xs, append-assoc row xs (replicate m z ++ drop size t), take-at row (replicate (size - length row) z ++ drop size t) (length row) refl, a,
+          drop-append-add row (replicate (length xs + m) z ++ drop size t) (length xs), ← replicate-append-replicate (length xs) m z,
+          append-assoc (replicate (length xs) z) (replicate m z) (drop size t),
+          drop-at (replicate (length xs) z) (replicate m z ++ drop size t) (length xs) (length-replicate (length xs) z))
+
+  -- an entry of the row
+  pub over-set : (row t : List A) (i : ℕ) (x : A) → i < length row → set (over size z row t) i x ≡ over size z (set row i x) t
+  unfolding over
+  over-set row t i x h = rw (length-set row i x) (set-append-left row (replicate (size - length row) z ++ drop size t) i x h)
+
+-- ---- stored
+
+module _ {A : Type 0} where
+  pub stored-one : (t : List A) (i : ℕ) (x : A) → i < length t → set t i x ≡ stored t i (x ∷ [])
+  unfolding stored
+  stored-one t i x h = rw add-one (set-split t i x h)
+
+  pub stored-stored : (t : List A) (i : ℕ) (xs ys : List A) → i ≤ length t → stored (stored t i xs) (i + length xs) ys ≡ stored t i (xs ++ ys)
+  unfolding stored
+  stored-stored t i xs ys h =
+      let n = i + length xs in
+      let r = drop n t in
+      let front : length (take i t ++ xs) ≡ n = omega (arith, length-append (take i t) xs, length-take-le i t h) in
+      let count : i + length (xs ++ ys) ≡ n + length ys = omega (arith, length-append xs ys) in
+      rw (← append-assoc (take i t) xs r, take-at (take i t ++ xs) r n front, ← drop-drop (length ys) n ((take i t ++ xs) ++ r),
+          drop-at (take i t ++ xs) r n front, drop-drop (length ys) n t, count)
+      (simp append-assoc)
