@@ -1,1 +1,9 @@
+pub mod Clauses
+pub mod Counting
+pub mod Lists
+pub mod Literals
+pub mod Masks
+pub mod Order
 pub mod Signed
+pub mod Tests
+pub mod Words

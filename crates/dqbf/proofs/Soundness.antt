@@ -1,0 +1,10 @@
+pub mod Calls
+pub mod Forks
+pub mod Link
+pub mod Moves
+pub mod Places
+pub mod Rules
+pub mod Settings
+pub mod Steps
+pub mod Truth
+pub mod View
