@@ -8,7 +8,6 @@ use Rattle.dqbf.specs.Statements.RuleIff.{AcceptedExactly, reached}
 use Rattle.dqbf.proofs.StepsKeepValid.{call-keeps}
 use Rattle.dqbf.proofs.RuleIff.{rule-iff}
 use Rattle.dqbf.proofs.LoadValid.{load-valid}
-use Rattle.dqbf.proofs.Soundness.Calls.{calls}
 
 pub reached-valid : (room : Room) (m : Model) → Valid room m → (cs : List Call) → Valid room (reached room m cs)
 unfolding reached

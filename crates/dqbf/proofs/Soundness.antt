@@ -5,7 +5,6 @@ pub mod Forks
 pub mod Settings
 pub mod Truth
 pub mod Rules
-pub mod Calls
 pub mod View
 pub mod Steps
 pub mod Link

@@ -42,10 +42,6 @@ module _ (m : Model) where
   pub dep-is : (C : Clause) (i : ℕ) → (bit (clauseSet m C) i ≡ true) ↔ DepAt m C i
   dep-is C i = (dep-to C i, λ d. dep-from i (d .0) (d .1) (d .2))
 
-  -- a clause of the same literals has the same set
-  dep-same : (C D : Clause) → ((x : ℤ) → x ∈ C → x ∈ D) → (i : ℕ) → DepAt m C i → DepAt m D i
-  dep-same C D sub i d = (d .0, sub (d .0) (d .1), d .2)
-
   pub inside-is : (L R : Clause) → (inside (clauseSet m L) (clauseSet m R) ≡ true) ↔ ((i : ℕ) → DepAt m L i → DepAt m R i)
   inside-is L R = (
     λ h i d. dep-is R i .0 (bit-inside (clauseSet m L) (clauseSet m R) .0 h i (dep-is L i .1 d)),

@@ -18,6 +18,7 @@ use Rattle.dqbf.specs.Run.{accepts, examine}
 use Rattle.dqbf.specs.Valid.{InOrder, Valid}
 use Rattle.dqbf.specs.Published.{FEx, Fits}
 use Rattle.dqbf.specs.Formula.{universals}
+use Rattle.dqbf.specs.Reading.{fresh}
 use Rattle.dqbf.proofs.Laws.Tests.{never, no-not, no-or, not-no, or-no, pass, passed}
 use Rattle.dqbf.proofs.Laws.Order.{ascending-in-order, in-order-same, more-ascending, pick-ascending}
 use Rattle.dqbf.proofs.Laws.Masks.{covers-from, covers-to, pick-is}
@@ -61,6 +62,7 @@ module _ (room : Room) (m : Model) (v : Valid room m) where
           not-around = λ i. true≢false (sym (inside-universals room m v R L .1 i) ∙ apart .1);
           universals = common-of-universals room m v L R;
           common = common-universals room m v L R;
+          fresh = λ D q x k e. let u = in-use m (natAbs x) (v .kept D q .over x k) in omega arith;
           isE = more-is L (pos (suc (used m)));
           isF = more-is R (negsuc (used m));
           E-in-order = part-order C inC a (pos (suc (used m))) refl;
