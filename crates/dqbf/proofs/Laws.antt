@@ -1,1 +1,12 @@
+-- Laws of the definitions, each group in the order of its definitions
+pub mod Tests
+pub mod Lists
 pub mod Signed
+pub mod Literals
+pub mod Clauses
+pub mod Order
+pub mod Masks
+pub mod Words
+pub mod Counting
+pub mod Models
+pub mod Dependencies
