@@ -16,13 +16,13 @@ use Rattle.dqbf.specs.Model.{Model, clauses, used, steps, universalCount, empty
 use Rattle.dqbf.specs.Valid.{Valid}
 use Rattle.dqbf.specs.Rules.{Addition, add}
 use Rattle.dqbf.specs.Published.{Fits}
-use Rattle.dqbf.proofs.Keeps.{more-clauses}
+use Rattle.dqbf.proofs.Laws.Models.{more-clauses, total-append}
 use Rattle.tables.specs.declared.State.{State}
 use Rattle.tables.specs.Tables.{Tables, tablesOf, modelIn}
 use Rattle.tables.specs.Spread.{flat, endsFrom, over, spread, stateOf, kindRow, setRow, blank}
 use Rattle.tables.specs.WellFormed.{long, wellFormed}
 use Rattle.tables.specs.Adding.{stored, lowestAfter, clauseEnded, variableAdded, stepCounted, formulaCounted, withFormula, ClauseRoom, VariableRoom}
-use Rattle.tables.proofs.Laws.Cuts.{flat-length, flat-append, ends-length, ends-append, total-append}
+use Rattle.tables.proofs.Laws.Cuts.{flat-length, flat-append, ends-length, ends-append}
 use Rattle.tables.proofs.Laws.Rows.{over-stored, stored-one, stored-stored, over-length}
 use Rattle.tables.proofs.Laws.Valid.{kinds-used, sets-used}
 use Rattle.tables.proofs.Laws.Spread.{model-held, state-held, valid-held}
@@ -31,12 +31,12 @@ use Rattle.tables.proofs.Laws.Spread.{model-held, state-held, valid-hel
 
 module _ (Cs Ds : List Clause) where
   literals-more : (t : List ℤ) → total Cs + total Ds ≤ literalLimit
-    → stored (over literalLimit (pos 0) (flat Cs) t) (total Cs) (flat Ds) ≡ over literalLimit (pos 0) (flat (Cs ++ Ds)) t
+      → stored (over literalLimit (pos 0) (flat Cs) t) (total Cs) (flat Ds) ≡ over literalLimit (pos 0) (flat (Cs ++ Ds)) t
   literals-more t h =
       rw (← flat-length Cs, flat-append Cs Ds) (over-stored (pos 0) literalLimit (flat Cs) (flat Ds) t (omega (arith, flat-length Cs, flat-length Ds)))
 
   ends-more : (t : List ℕ) → length Cs + length Ds ≤ clauseLimit
-    → stored (over clauseLimit 0 (endsFrom 0 Cs) t) (length Cs) (endsFrom (total Cs) Ds) ≡ over clauseLimit 0 (endsFrom 0 (Cs ++ Ds)) t
+      → stored (over clauseLimit 0 (endsFrom 0 Cs) t) (length Cs) (endsFrom (total Cs) Ds) ≡ over clauseLimit 0 (endsFrom 0 (Cs ++ Ds)) t
   ends-more t h =
       rw (← ends-length 0 Cs, ends-append 0 Cs Ds, zero-add (total Cs))
       (over-stored 0 clauseLimit (endsFrom 0 Cs) (endsFrom (total Cs) Ds) t (omega (arith, ends-length 0 Cs, ends-length (total Cs) Ds)))
@@ -83,4 +83,4 @@ module _ (m : Model) (v : Valid tables m) (a : Addition) (fits : Fits tables m a
   add-kinds =
       rw (more-kinds, ← kinds-used m)
       (over-stored 0 variableLimit (kindRow m) (replicate (length (a .forks)) 3) (t .kinds)
-        (omega (arith, kinds-used m, fits .variables-fit, length-replicate {A = ℕ} (length (a .forks)) 3)))
+      (omega (arith, kinds-used m, fits .variables-fit, length-replicate {A = ℕ} (length (a .forks)) 3)))

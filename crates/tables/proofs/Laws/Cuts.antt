@@ -16,10 +16,10 @@ use lib.IntN.{ℤ}
 use lib.ListN.{length, getD, take, drop, length-append, length-drop}
 use lib.Seq.{take-add, drop-drop, take-at, drop-at, length-take-le}
 use Rattle.dqbf.specs.Literal.{Clause, total}
+use Rattle.dqbf.proofs.Laws.Tests.{and-left, and-right, both}
 use Rattle.tables.specs.Tables.{stretch, cut, entry}
 use Rattle.tables.specs.Spread.{flat, endsFrom}
 use Rattle.tables.specs.WellFormed.{endsRise}
-use Rattle.tables.proofs.Laws.Tests.{and-left, and-right, and-both}
 
 -- ---- stretch
 
@@ -76,11 +76,6 @@ unfolding flat
 flat-append [] Ds = refl
 flat-append (C ∷ Cs) Ds = rw (flat-append Cs Ds, append-assoc)
 
-pub total-append : (Cs Ds : List Clause) → total (Cs ++ Ds) ≡ total Cs + total Ds
-unfolding total
-total-append [] Ds = omega arith
-total-append (C ∷ Cs) Ds = omega (arith, total-append Cs Ds)
-
 pub ends-append : (from : ℕ) (Cs Ds : List Clause) → endsFrom from (Cs ++ Ds) ≡ endsFrom from Cs ++ endsFrom (from + total Cs) Ds
 unfolding endsFrom total
 ends-append from [] Ds = rw add-zero
@@ -95,7 +90,7 @@ pub ends-rise : (from : ℕ) (Cs : List Clause) → endsRise from (endsFrom from
 unfolding endsRise endsFrom total
 ends-rise from [] = eq-eqb from (from + 0) (omega arith)
 ends-rise from (C ∷ Cs) =
-    and-both (le-leb from (from + length C) (omega arith)) (rw (← add-assoc from (length C) (total Cs)) (ends-rise (from + length C) Cs))
+    both _ _ (le-leb from (from + length C) (omega arith)) (rw (← add-assoc from (length C) (total Cs)) (ends-rise (from + length C) Cs))
 
 -- the clauses that were laid are cut out again
 pub cut-flat : (x : List ℤ) (Cs : List Clause) (y : List ℤ) (from : ℕ) → length x ≡ from → cut from (endsFrom from Cs) (x ++ (flat Cs ++ y)) ≡ Cs

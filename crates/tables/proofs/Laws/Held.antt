@@ -19,11 +19,12 @@ use lib.Seq.{length-take-le}
 use Rattle.dqbf.specs.Limits.{clauseLimit, literalLimit, variableLimit}
 use Rattle.dqbf.specs.Literal.{total, same}
 use Rattle.dqbf.specs.Model.{Model, clauses, used, steps, universalsIn, universalCount, lowestEmpty}
+use Rattle.dqbf.proofs.Laws.Tests.{and-left, and-right}
 use Rattle.tables.specs.declared.State.{State}
 use Rattle.tables.specs.Tables.{Tables, stretch, cut, kindsIn, setsIn, endsIn, clausesIn, modelIn}
 use Rattle.tables.specs.Spread.{flat, endsFrom, over, spread, stateOf, kindRow, setRow}
 use Rattle.tables.specs.WellFormed.{isZero, isZeroLiteral, forksAbove, variablesFit}
-use Rattle.tables.proofs.Laws.Tests.{and-left, and-right, every-at}
+use Rattle.tables.proofs.Laws.Tests.{every-at}
 use Rattle.tables.proofs.Laws.Cuts.{flat-cut, flat-length, ends-cut, cut-length}
 use Rattle.tables.proofs.Laws.Rows.{over-self}
 use Rattle.tables.proofs.Laws.Formed.{Long, Formed}

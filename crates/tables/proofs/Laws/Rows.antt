@@ -70,10 +70,16 @@ module _ {A : Type 0} (z : A) (size : ℕ) where
   over-stored row xs t h =
       let m = size - (length row + length xs) in
       let a : size - length row ≡ length xs + m = omega arith in
-      rw (length-append row xs, append-assoc row xs (replicate m z ++ drop size t), take-at row (replicate (size - length row) z ++ drop size t) (length row) refl, a,
-          drop-append-add row (replicate (length xs + m) z ++ drop size t) (length xs), ← replicate-append-replicate (length xs) m z,
-          append-assoc (replicate (length xs) z) (replicate m z) (drop size t),
-          drop-at (replicate (length xs) z) (replicate m z ++ drop size t) (length xs) (length-replicate (length xs) z))
+      rw (
+        length-append row xs,
+        append-assoc row xs (replicate m z ++ drop size t),
+        take-at row (replicate (size - length row) z ++ drop size t) (length row) refl,
+        a,
+        drop-append-add row (replicate (length xs + m) z ++ drop size t) (length xs),
+        ← replicate-append-replicate (length xs) m z,
+        append-assoc (replicate (length xs) z) (replicate m z) (drop size t),
+        drop-at (replicate (length xs) z) (replicate m z ++ drop size t) (length xs) (length-replicate (length xs) z),
+      )
 
   -- an entry of the row
   pub over-set : (row t : List A) (i : ℕ) (x : A) → i < length row → set (over size z row t) i x ≡ over size z (set row i x) t
@@ -94,6 +100,12 @@ module _ {A : Type 0} where
       let r = drop n t in
       let front : length (take i t ++ xs) ≡ n = omega (arith, length-append (take i t) xs, length-take-le i t h) in
       let count : i + length (xs ++ ys) ≡ n + length ys = omega (arith, length-append xs ys) in
-      rw (← append-assoc (take i t) xs r, take-at (take i t ++ xs) r n front, ← drop-drop (length ys) n ((take i t ++ xs) ++ r),
-          drop-at (take i t ++ xs) r n front, drop-drop (length ys) n t, count)
+      rw (
+        ← append-assoc (take i t) xs r,
+        take-at (take i t ++ xs) r n front,
+        ← drop-drop (length ys) n ((take i t ++ xs) ++ r),
+        drop-at (take i t ++ xs) r n front,
+        drop-drop (length ys) n t,
+        count,
+      )
       (simp append-assoc)

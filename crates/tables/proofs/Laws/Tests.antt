@@ -1,5 +1,5 @@
 -- Tests of lists.
---     and-left, and-right, and-both      both sides of a conjunction
+--     and-left, and-right, both _ _      both sides of a conjunction
 --     every-at, every-from, every-fails  one condition of a list that holds; each of them; one that fails
 --     all-pass, all-fail, all-end        one turn of a loop that tests each entry
 --     all-member, all-getD, all-from     a test of all entries, and of each
@@ -17,18 +17,8 @@ use lib.ListN.{length, getD, take, drop, replicate, drop-of-length-le}
 use lib.Seq.{drop-cons}
 use Rattle.dqbf.specs.Literal.{_∈_}
 use Rattle.dqbf.specs.Set.{Set}
+use Rattle.dqbf.proofs.Laws.Tests.{and-left, and-right, both}
 use Rattle.tables.specs.WellFormed.{every, allOf, allVariables}
-
-pub and-left : (a b : Bool) → (a && b) ≡ true → a ≡ true
-and-left true b e = refl
-and-left false b e = e
-
-pub and-right : (a b : Bool) → (a && b) ≡ true → b ≡ true
-and-right true b e = e
-and-right false b e = let z : true ≡ false = sym e in cc
-
-pub and-both : {a b : Bool} → a ≡ true → b ≡ true → (a && b) ≡ true
-and-both p q = rw (p, q)
 
 -- ---- every
 
@@ -46,7 +36,7 @@ Each (b ∷ bs) = (b ≡ true) × Each bs
 pub every-from : (bs : List Bool) → Each bs → every bs ≡ true
 unfolding every
 every-from [] f = refl
-every-from (b ∷ bs) f = and-both (f .0) (every-from bs (f .1))
+every-from (b ∷ bs) f = both _ _ (f .0) (every-from bs (f .1))
 
 pub every-fails : (bs : List Bool) (i : ℕ) → getD bs i true ≡ false → every bs ≡ false
 unfolding every
@@ -78,7 +68,7 @@ module _ {A : Type 0} (P : A → Bool) where
   pub all-from : (l : List A) → ((x : A) → x ∈ l → P x ≡ true) → allOf P l ≡ true
   unfolding allOf
   all-from [] f = refl
-  all-from (y ∷ l) f = and-both (f y (List·Memᴰ·head refl)) (all-from l (λ x q. f x (List·Memᴰ·tail q)))
+  all-from (y ∷ l) f = both _ _ (f y (List·Memᴰ·head refl)) (all-from l (λ x q. f x (List·Memᴰ·tail q)))
 
   pub all-getD : (l : List A) → allOf P l ≡ true → (d : A) → P d ≡ true → (i : ℕ) → P (getD l i d) ≡ true
   unfolding allOf
@@ -121,4 +111,4 @@ module _ (P : ℕ → Set → Bool) where
   unfolding allVariables
   variables-from [] sets e f = refl
   variables-from (k ∷ kinds) [] e f = refl
-  variables-from (k ∷ kinds) (s ∷ sets) e f = and-both (f 0 (omega arith)) (variables-from kinds sets (omega arith) (λ i h. f (suc i) (omega arith)))
+  variables-from (k ∷ kinds) (s ∷ sets) e f = both _ _ (f 0 (omega arith)) (variables-from kinds sets (omega arith) (λ i h. f (suc i) (omega arith)))

@@ -18,10 +18,10 @@ use lib.Dec.{eqb, ltb, leb·suc-suc}
 use lib.ListN.{length, getD}
 use lib.Pow.{pow-pos}
 use Rattle.dqbf.specs.Set.{Set, bit, single, union}
-use Rattle.dqbf.proofs.Words.{bit-zero, bit-and, bit-or, bit-ext, bit-single}
-use Rattle.dqbf.proofs.Counting.{single-one}
+use Rattle.dqbf.proofs.Laws.Tests.{and-left, and-right, both, or-no, or-either, or-right}
+use Rattle.dqbf.proofs.Laws.Words.{bit-zero, bit-and, bit-or, bit-ext, bit-single}
+use Rattle.dqbf.proofs.Laws.Counting.{single-one}
 use Rattle.tables.specs.WellFormed.{lowest, newBit, universalBits}
-use Rattle.tables.proofs.Laws.Tests.{and-left, and-right, and-both}
 
 -- ---- sets of one place
 
@@ -57,27 +57,15 @@ lowest-bit (suc n) (suc i) =
 
 -- ---- a place of a union
 
-or-left : (a b : Bool) → (a || b) ≡ false → a ≡ false
-or-left true b e = e
-or-left false b e = refl
-
-or-right : (a b : Bool) → (a || b) ≡ false → b ≡ false
-or-right true b e = absurd (true≢false e)
-or-right false b e = e
-
-or-or : (a b : Bool) → (a || b) ≡ true → (a ≡ true) ⊎ (b ≡ true)
-or-or true b e = inl refl
-or-or false b e = inr e
-
 module _ (seen j i : ℕ) where
   joined : bit (union seen (single j)) i ≡ (bit seen i || eqb j i)
   joined = bit-or seen (2 ^ j) i ∙ ap (λ b. bit seen i || b) (bit-single j i)
 
   unseen : bit (union seen (single j)) i ≡ false → bit seen i ≡ false
-  unseen e = or-left (bit seen i) (eqb j i) (sym joined ∙ e)
+  unseen e = or-no (bit seen i) (eqb j i) (sym joined ∙ e) .0
 
   apart : bit (union seen (single j)) i ≡ false → j ≡ i → ⊥
-  apart e = eqb-false j i (or-right (bit seen i) (eqb j i) (sym joined ∙ e))
+  apart e = eqb-false j i (or-no (bit seen i) (eqb j i) (sym joined ∙ e) .1)
 
   keeps-out : bit seen i ≡ false → (j ≡ i → ⊥) → bit (union seen (single j)) i ≡ false
   keeps-out e d = joined ∙ rw (e, ne-eqb j i d)
@@ -86,18 +74,14 @@ module _ (seen j i : ℕ) where
   holds-old e = joined ∙ rw e
 
   came : bit (union seen (single j)) i ≡ true → (bit seen i ≡ true) ⊎ (j ≡ i)
-  came e = go (or-or (bit seen i) (eqb j i) (sym joined ∙ e))
+  came e = go (or-either (bit seen i) (eqb j i) (sym joined ∙ e))
     where
       go : (bit seen i ≡ true) ⊎ (eqb j i ≡ true) → (bit seen i ≡ true) ⊎ (j ≡ i)
       go (inl a) = inl a
       go (inr b) = inr (eqb-true j i b)
 
 holds-new : (seen j : ℕ) → bit (union seen (single j)) j ≡ true
-holds-new seen j = joined seen j j ∙ go (bit seen j) (eqb j j) (eq-eqb j j refl)
-  where
-    go : (a b : Bool) → b ≡ true → (a || b) ≡ true
-    go true b e = refl
-    go false b e = e
+holds-new seen j = joined seen j j ∙ or-right (bit seen j) (eqb j j) (eq-eqb j j refl)
 
 -- ---- universalBits
 
@@ -271,6 +255,6 @@ module _ (n : ℕ) where
       go true q ih ih′ =
           let r = f .sole 0 (omega arith) (eqb-true k 1 q) in
           rw (r .2)
-          (and-both (and-both (eq-eqb (ones (2 ^ r .0)) 1 (single-size (r .0))) (eq-eqb (bitAnd seen (2 ^ r .0)) 0 (fresh-back seen (r .0) (r .3))))
+          (both _ _ (both _ _ (eq-eqb (ones (2 ^ r .0)) 1 (single-size (r .0))) (eq-eqb (bitAnd seen (2 ^ r .0)) 0 (fresh-back seen (r .0) (r .3))))
           (ih (r .0) (rest-universal seen k s kinds sets f (eqb-true k 1 q) (r .0) (r .1) (r .2) (r .3))))
       go false q ih ih′ = ih′ (rest-other seen k s kinds sets f (eqb-false k 1 q))

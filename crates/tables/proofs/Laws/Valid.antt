@@ -20,11 +20,12 @@ use Rattle.dqbf.specs.Literal.{Clause, _∈_, total}
 use Rattle.dqbf.specs.Set.{Set, bit, single, emptySet, inside}
 use Rattle.dqbf.specs.Model.{Model, clauses, used, steps, universalCount, universalsIn, kindOf, setOf}
 use Rattle.dqbf.specs.Valid.{Ascending, Kept, Valid}
-use Rattle.dqbf.proofs.Words.{bit-zero, bit-single, bit-inside}
+use Rattle.dqbf.proofs.Laws.Tests.{and-left, and-right, both}
+use Rattle.dqbf.proofs.Laws.Words.{bit-zero, bit-single, bit-inside}
 use Rattle.tables.specs.Tables.{entry}
 use Rattle.tables.specs.Spread.{kindRow, setRow, stateOf}
 use Rattle.tables.specs.WellFormed.{every, allOf, allVariables, ascending, narrow, overKinds, clausesFit, countsFit, lowest, universalBits, otherInside, isKind, undeclaredBare, forksAbove, variablesFit, valid}
-use Rattle.tables.proofs.Laws.Tests.{and-left, and-right, and-both, every-at, every-from, all-member, all-getD, all-from, variables-at, variables-from}
+use Rattle.tables.proofs.Laws.Tests.{every-at, every-from, all-member, all-getD, all-from, variables-at, variables-from}
 use Rattle.tables.proofs.Laws.Formed.{Counts, counts-is, counts-to}
 use Rattle.tables.proofs.Laws.Held.{universals-threes}
 use Rattle.tables.proofs.Laws.Universals.{Bits, Taken, bits-is, bits-from, lowest-bit}
@@ -42,7 +43,7 @@ ascending-is x (l ∷ C) e =
 pub ascending-from : (x : ℕ) (C : Clause) → ((k : ℤ) → k ∈ C → x < natAbs k) → Ascending C → ascending x C ≡ true
 unfolding ascending Ascending
 ascending-from x [] f a = refl
-ascending-from x (l ∷ C) f a = and-both (lt-ltb x (natAbs l) (f l (List·Memᴰ·head refl))) (ascending-from (natAbs l) C (a .0) (a .1))
+ascending-from x (l ∷ C) f a = both _ _ (lt-ltb x (natAbs l) (f l (List·Memᴰ·head refl))) (ascending-from (natAbs l) C (a .0) (a .1))
 
 -- ---- the rows of a model
 
@@ -81,7 +82,7 @@ over-is k kinds C e l q =
 
 over-from : (k : ℕ) (kinds : List ℕ) (C : Clause) → ((l : ℤ) → l ∈ C → (0 < entry kinds (natAbs l)) × (entry kinds (natAbs l) ≤ k)) → overKinds k kinds C ≡ true
 unfolding overKinds
-over-from k kinds C f = all-from _ C (λ l q. and-both (lt-ltb _ _ (f l q .0)) (le-leb _ _ (f l q .1)))
+over-from k kinds C f = all-from _ C (λ l q. both _ _ (lt-ltb _ _ (f l q .0)) (le-leb _ _ (f l q .1)))
 
 -- ---- forksAbove
 
@@ -97,7 +98,7 @@ unfolding forksAbove
 forks-from [] zero f = refl
 forks-from [] (suc n) f = forks-from [] n f
 forks-from (k ∷ kinds) n f =
-    and-both (ap not (ne-eqb k 3 (λ e. absurd (omega (arith, f k (List·Memᴰ·head refl)))))) (forks-from kinds n (λ k q. f k (List·Memᴰ·tail q)))
+    both _ _ (ap not (ne-eqb k 3 (λ e. absurd (omega (arith, f k (List·Memᴰ·head refl)))))) (forks-from kinds n (λ k q. f k (List·Memᴰ·tail q)))
 
 -- a number above V has kind 3, or none
 kind-above : (kinds : List ℕ) (n i : ℕ) → length kinds ≤ i → (getD (kinds ++ replicate n 3) i 0 ≡ 0) ⊎ (getD (kinds ++ replicate n 3) i 0 ≡ 3)
