@@ -3,17 +3,21 @@
 --     lowestAfter               the lowest empty clause
 --     clauseEnded, variableAdded, stepCounted, formulaCounted      the state
 --     withFormula               a model with one more formula clause, for the reader
---     ClauseRoom, VariableRoom  there is room for one more
+--     full, RoomFor             whether so many more fit
+--     Added                     tables and state after an addition
 -- Assumes nothing.
-use mathlib.Core.Bool.{cond, _&&_}
+use mathlib.Core.Path.{_≡_}
+use mathlib.Core.Bool.{Bool, cond, _&&_, _||_}
 use mathlib.Core.List.{List, [], _∷_, _++_}
-use Prim.Native.Nat.{ℕ, _+_, _≤_, _<_}
-use lib.Dec.{eqb}
+use Prim.Native.Nat.{ℕ, _+_, _≤_}
+use lib.Dec.{eqb, ltb}
 use lib.ListN.{length, take, drop}
 use Rattle.dqbf.specs.Limits.{clauseLimit, literalLimit, variableLimit}
 use Rattle.dqbf.specs.Literal.{Clause}
-use Rattle.dqbf.specs.Set.{Set}
 use Rattle.dqbf.specs.Model.{Model}
+use Rattle.dqbf.specs.Rules.{Addition, add}
+use Rattle.tables.specs.Tables.{Tables, modelIn}
+use Rattle.tables.specs.Spread.{spread, stateOf}
 use Rattle.tables.specs.declared.State.{State}
 
 -- a table with entries stored from a place on
@@ -79,12 +83,18 @@ formulaCounted s = record {
 unfoldable pub withFormula : Model → Clause → Model
 withFormula m C = record { kinds = m .kinds; sets = m .sets; formula = m .formula ++ (C ∷ []); forks = m .forks; derived = m .derived }
 
-pub record ClauseRoom (ends : List ℕ) (s : State) (width : ℕ) : Type 0 where
-  pub clauses : s .clauses .0 < clauseLimit
-  pub literals : s .literals + width ≤ literalLimit
-  pub table : clauseLimit ≤ length ends
+-- ---- number 25: so many clauses, literals and variables more would not fit
 
-pub record VariableRoom (sets : List Set) (kinds : List ℕ) (s : State) : Type 0 where
-  pub variables : s .variables .0 < variableLimit
-  pub set-table : variableLimit ≤ length sets
-  pub kind-table : variableLimit ≤ length kinds
+unfoldable pub full : State → (clauses literals variables : ℕ) → Bool
+full s clauses literals variables =
+    ltb clauseLimit (s .clauses .0 + clauses) || ltb literalLimit (s .literals + literals) || ltb variableLimit (s .variables .0 + variables)
+
+pub record RoomFor (s : State) (clauses literals variables : ℕ) : Type 0 where
+  pub clauses-fit : s .clauses .0 + clauses ≤ clauseLimit
+  pub literals-fit : s .literals + literals ≤ literalLimit
+  pub variables-fit : s .variables .0 + variables ≤ variableLimit
+
+-- tables and state after an addition to those that hold a model
+pub record Added (t : Tables) (s : State) (a : Addition) (t′ : Tables) (s′ : State) : Type 0 where
+  pub tables : t′ ≡ spread (add (modelIn t s) a) t
+  pub state : s′ ≡ stateOf (add (modelIn t s) a)

@@ -1,12 +1,15 @@
 -- A row at the front of a table, zeros behind it up to the table's size.
---     over-self, over-take, over-drop, over-rest, over-length     what stands where
---     over-over                                                   the last row counts
---     over-stored, over-set                                       entries stored behind a row, or in it
+--     over-self, over-take, over-drop, over-rest     what stands where
+--     over-length, over-size                         how long it is
+--     over-over                                      the last row counts
+--     over-stored, over-set                          entries stored behind a row, or in it
+--     stored-none, stored-one, stored-stored         entries stored into a table
 -- Assumes nothing.
 use mathlib.Core.Path.{_≡_, refl, ap, sym, _∙_}
 use mathlib.Core.Bool.{Bool, true}
 use mathlib.Core.List.{List, [], _∷_, _++_, append-assoc}
 use Prim.Native.Nat.{ℕ, zero, suc, _+_, _-_, _≤_, _<_}
+use native.Mathlib.Nat.{add-zero}
 use native.Mathlib.Numerals.{add-one}
 use native.Mathlib.Omega.{arith}
 use lib.ListN.{length, take, drop, set, replicate, take-append-drop, length-append, length-drop, length-replicate, length-set, replicate-append-replicate}
@@ -43,6 +46,12 @@ module _ {A : Type 0} (z : A) (size : ℕ) where
         length-replicate (size - length row) z,
         length-drop size t,
       )
+
+  pub over-size : (row t : List A) → length row ≤ size → size ≤ length (over size z row t)
+  unfolding over
+  over-size row t h =
+      omega (arith, length-append row (replicate (size - length row) z ++ drop size t), length-append (replicate (size - length row) z) (drop size t),
+             length-replicate (size - length row) z)
 
   pub over-take : (row t : List A) → take (length row) (over size z row t) ≡ row
   unfolding over
@@ -89,6 +98,10 @@ module _ {A : Type 0} (z : A) (size : ℕ) where
 -- ---- stored
 
 module _ {A : Type 0} where
+  pub stored-none : (t : List A) (i : ℕ) → stored t i [] ≡ t
+  unfolding stored
+  stored-none t i = rw add-zero (take-append-drop i t)
+
   pub stored-one : (t : List A) (i : ℕ) (x : A) → i < length t → set t i x ≡ stored t i (x ∷ [])
   unfolding stored
   stored-one t i x h = rw add-one (set-split t i x h)
