@@ -26,5 +26,6 @@ pub struct State {
 
 pub mod adding;
 pub mod entries;
+pub mod formed;
 pub mod limits;
 pub mod zero;
