@@ -1,6 +1,7 @@
 -- Laws of the definitions, each group in the order of its definitions
 pub mod Tests
 pub mod Lists
+pub mod Parts
 pub mod Signed
 pub mod Literals
 pub mod Clauses
