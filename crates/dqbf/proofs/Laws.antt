@@ -10,4 +10,5 @@ pub mod Masks
 pub mod Words
 pub mod Counting
 pub mod Models
+pub mod Outcomes
 pub mod Dependencies
