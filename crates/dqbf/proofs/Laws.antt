@@ -1,6 +1,7 @@
 -- Laws of the definitions, each group in the order of its definitions
 pub mod Tests
 pub mod Lists
+pub mod Parts
 pub mod Signed
 pub mod Literals
 pub mod Clauses
@@ -9,4 +10,5 @@ pub mod Masks
 pub mod Words
 pub mod Counting
 pub mod Models
+pub mod Outcomes
 pub mod Dependencies
