@@ -10,3 +10,4 @@ pub mod Adding
 pub mod Entries
 pub mod Zeros
 pub mod Turns
+pub mod Unusable

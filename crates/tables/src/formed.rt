@@ -9,6 +9,7 @@ ghost use Rattle.dqbf.specs.Limits.{clauseLimit, universalLimit};
 ghost use Rattle.dqbf.specs.Model.{emptyFrom};
 ghost use Rattle.tables.specs.Tables.{tablesOf, cut};
 ghost use Rattle.tables.specs.WellFormed.{every, long, countsFit, endsRise, clauseFits, clausesFit, lowest, newBit, kindStands, variableFits, variablesFit, restZero, wellFormed};
+ghost use Rattle.tables.specs.Unusable.{unusableNumber};
 use super::State;
 use super::VariableNumber;
 use super::adding;
@@ -18,6 +19,7 @@ use super::limits::LITERAL_LIMIT;
 use super::limits::UNIVERSAL_LIMIT;
 use super::limits::VARIABLE_LIMIT;
 use super::limits::WIDTH_LIMIT;
+use super::refusal;
 use super::zero;
 use dqbf::literal;
 
@@ -285,4 +287,17 @@ pub fn well_formed(literals: &[i16], ends: &[u16], sets: &[u64], kinds: &[u8], s
         return false;
     }
     rest_zero(literals, ends, sets, kinds, state)
+}
+
+// The number of the refusal that comes before all others, 1 or 2; 0 if there is none.
+pub fn first_refusal(literals: &[i16], ends: &[u16], sets: &[u64], kinds: &[u8], state: State) -> u16
+    ensures { λ r. ⌜ r ≡ unusableNumber (tablesOf (now (literals .entry)) (now (ends .entry)) (now (sets .entry)) (now (kinds .entry))) state ⌝ }
+{
+    if !long_enough(literals, ends, sets, kinds) {
+        return refusal::TABLE_TOO_SHORT;
+    }
+    if !well_formed(literals, ends, sets, kinds, state) {
+        return refusal::NOT_WELL_FORMED;
+    }
+    0
 }

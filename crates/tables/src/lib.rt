@@ -28,4 +28,5 @@ pub mod adding;
 pub mod entries;
 pub mod formed;
 pub mod limits;
+pub mod refusal;
 pub mod zero;

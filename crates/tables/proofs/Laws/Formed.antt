@@ -6,11 +6,11 @@
 --     ill-.., rest-decides             the same as the test goes
 -- Assumes nothing.
 use mathlib.Core.Path.{_≡_, refl, ap, sym, _∙_}
-use mathlib.Core.Bool.{Bool, true, false, true≢false}
+use mathlib.Core.Bool.{Bool, true, false, not, true≢false}
 use mathlib.Core.List.{[], _∷_}
 use Prim.Native.Nat.{ℕ, zero, suc, _+_, _-_, _≤_, _<_}
 use native.Mathlib.Omega.{arith}
-use borrow.Author.Tests.{leb-true, eqb-true, le-leb, eq-eqb}
+use borrow.Author.Tests.{leb-true, eqb-true, le-leb, eq-eqb, not-false}
 use lib.Dec.{eqb}
 use lib.ListN.{length}
 use lib.Seq.{length-take-le}
@@ -154,9 +154,12 @@ module _ (t : Tables) (s : State) where
   unfolding wellFormed
   ill-variables e = every-fails _ 3 e
 
-  pub rest-decides : countsFit s ≡ true → clauseTests ≡ true → variablesFit (s .bound .0) (s .universals) (kindsIn t s) (setsIn t s) ≡ true → restZero t s ≡ wellFormed t s
+  -- each test told by an answer that was not false
+  pub rest-decides : {a b c r : Bool} → a ≡ countsFit s → not a ≡ false → b ≡ clauseTests → not b ≡ false
+    → c ≡ variablesFit (s .bound .0) (s .universals) (kindsIn t s) (setsIn t s) → not c ≡ false → r ≡ restZero t s → r ≡ wellFormed t s
   unfolding wellFormed emptyTold
-  rest-decides a b c =
-      every-last (countsFit s ∷ endsRise 0 (endsIn t s) (s .literals) ∷ clausesFit (s .formula .0) (kindsIn t s) (clausesIn t s)
-      ∷ variablesFit (s .bound .0) (s .universals) (kindsIn t s) (setsIn t s) ∷ emptyTold s (clausesIn t s) ∷ []) (restZero t s)
-      (a, (every-at _ b 0, (every-at _ b 1, (c, (every-at _ b 2, tt)))))
+  rest-decides p a q b w c r =
+      let clauses = sym q ∙ not-false _ b in
+      r ∙ every-last (countsFit s ∷ endsRise 0 (endsIn t s) (s .literals) ∷ clausesFit (s .formula .0) (kindsIn t s) (clausesIn t s)
+        ∷ variablesFit (s .bound .0) (s .universals) (kindsIn t s) (setsIn t s) ∷ emptyTold s (clausesIn t s) ∷ []) (restZero t s)
+        (sym p ∙ not-false _ a, (every-at _ clauses 0, (every-at _ clauses 1, (sym w ∙ not-false _ c, (every-at _ clauses 2, tt)))))

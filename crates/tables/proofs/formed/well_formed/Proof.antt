@@ -90,7 +90,7 @@ returns-4 c =
     let at-clauses-fit = at-if2 .before in
     let at-if1 = at-clauses-fit .before .before .before .before .before .before .before .before .before .before .before in
     let at-counts-fit = at-if1 .before in
-    c .rest-zero .ensures ∙ rest-decides _ _ (sym (at-counts-fit .counts-fit .ensures) ∙ not-false _ (at-if1 .if1 .left)) (sym (at-clauses-fit .clauses-fit .ensures) ∙ not-false _ (at-if2 .if2 .left)) (sym (at-variables-fit .variables-fit .ensures) ∙ not-false _ (at-if3 .if3 .left))
+    rest-decides _ _ (at-counts-fit .counts-fit .ensures) (at-if1 .if1 .left) (at-clauses-fit .clauses-fit .ensures) (at-if2 .if2 .left) (at-variables-fit .variables-fit .ensures) (at-if3 .if3 .left) (c .rest-zero .ensures)
 
 pub well-formed-spec : {M : Type 1} → statement M
 well-formed-spec =
