@@ -89,85 +89,117 @@ pub fn judged(
     line(label, number as u64);
 }
 
-// The sample with another state.
-pub fn with_state(label: &[u8], state: State) {
-    let mut literals = [0i16; 8200];
-    let mut ends = [0u16; 2056];
-    let mut sets = [0u64; 520];
-    let mut kinds = [0u8; 520];
-    sample(&mut literals, &mut ends, &mut sets, &mut kinds);
-    judged(label, &literals, &ends, &sets, &kinds, state);
+// One entry of each table, two of the literals and of the sets.
+pub struct Change {
+    pub literal_place: usize,
+    pub literal: i16,
+    pub next_literal: i16,
+    pub end_place: usize,
+    pub end: u16,
+    pub set_place: usize,
+    pub set: u64,
+    pub other_place: usize,
+    pub other: u64,
+    pub kind_place: usize,
+    pub kind: u8,
 }
 
-// The sample with one literal changed.
-pub fn with_literal(label: &[u8], place: usize, literal: i16) {
-    let mut literals = [0i16; 8200];
-    let mut ends = [0u16; 2056];
-    let mut sets = [0u64; 520];
-    let mut kinds = [0u8; 520];
-    sample(&mut literals, &mut ends, &mut sets, &mut kinds);
-    if place < 8200 {
-        literals[place] = literal;
+// The marks as they are.
+fn unchanged() -> Change {
+    Change {
+        literal_place: 8198,
+        literal: 0,
+        next_literal: 7,
+        end_place: 2055,
+        end: 7,
+        set_place: 519,
+        set: 7,
+        other_place: 519,
+        other: 7,
+        kind_place: 519,
+        kind: 7,
     }
-    judged(label, &literals, &ends, &sets, &kinds, sample_state());
 }
 
-// The sample with two neighbouring literals exchanged.
-pub fn with_exchange(label: &[u8], place: usize) {
-    let mut literals = [0i16; 8200];
-    let mut ends = [0u16; 2056];
-    let mut sets = [0u64; 520];
-    let mut kinds = [0u8; 520];
-    sample(&mut literals, &mut ends, &mut sets, &mut kinds);
+fn change_literals(literals: &mut [i16; 8200], place: usize, literal: i16, next: i16) {
     if place < 8199 {
-        let first = literals[place];
-        let second = literals[place + 1];
-        literals[place] = second;
-        literals[place + 1] = first;
+        literals[place] = literal;
+        literals[place + 1] = next;
     }
-    judged(label, &literals, &ends, &sets, &kinds, sample_state());
 }
 
-// The sample with one end changed.
-pub fn with_end(label: &[u8], place: usize, end: u16) {
-    let mut literals = [0i16; 8200];
-    let mut ends = [0u16; 2056];
-    let mut sets = [0u64; 520];
-    let mut kinds = [0u8; 520];
-    sample(&mut literals, &mut ends, &mut sets, &mut kinds);
+fn change_end(ends: &mut [u16; 2056], place: usize, end: u16) {
     if place < 2056 {
         ends[place] = end;
     }
-    judged(label, &literals, &ends, &sets, &kinds, sample_state());
 }
 
-// The sample with the sets of two variables changed.
-pub fn with_sets(label: &[u8], place: usize, set: u64, other_place: usize, other: u64) {
-    let mut literals = [0i16; 8200];
-    let mut ends = [0u16; 2056];
-    let mut sets = [0u64; 520];
-    let mut kinds = [0u8; 520];
-    sample(&mut literals, &mut ends, &mut sets, &mut kinds);
+fn change_set(sets: &mut [u64; 520], place: usize, set: u64) {
     if place < 520 {
         sets[place] = set;
     }
-    if other_place < 520 {
-        sets[other_place] = other;
-    }
-    judged(label, &literals, &ends, &sets, &kinds, sample_state());
 }
 
-// The sample with one kind changed.
-pub fn with_kind(label: &[u8], place: usize, kind: u8) {
+fn change_kind(kinds: &mut [u8; 520], place: usize, kind: u8) {
+    if place < 520 {
+        kinds[place] = kind;
+    }
+}
+
+// The sample with a change and a state.
+fn changed(label: &[u8], change: Change, state: State) {
     let mut literals = [0i16; 8200];
     let mut ends = [0u16; 2056];
     let mut sets = [0u64; 520];
     let mut kinds = [0u8; 520];
     sample(&mut literals, &mut ends, &mut sets, &mut kinds);
-    if place < 520 {
-        kinds[place] = kind;
-    }
-    judged(label, &literals, &ends, &sets, &kinds, sample_state());
+    change_literals(
+        &mut literals,
+        change.literal_place,
+        change.literal,
+        change.next_literal,
+    );
+    change_end(&mut ends, change.end_place, change.end);
+    change_set(&mut sets, change.set_place, change.set);
+    change_set(&mut sets, change.other_place, change.other);
+    change_kind(&mut kinds, change.kind_place, change.kind);
+    judged(label, &literals, &ends, &sets, &kinds, state);
+}
+
+pub fn with_state(label: &[u8], state: State) {
+    changed(label, unchanged(), state);
+}
+
+// Two neighbouring literals.
+pub fn with_literals(label: &[u8], place: usize, literal: i16, next: i16) {
+    let mut change = unchanged();
+    change.literal_place = place;
+    change.literal = literal;
+    change.next_literal = next;
+    changed(label, change, sample_state());
+}
+
+pub fn with_end(label: &[u8], place: usize, end: u16) {
+    let mut change = unchanged();
+    change.end_place = place;
+    change.end = end;
+    changed(label, change, sample_state());
+}
+
+pub fn with_sets(label: &[u8], place: usize, set: u64, other_place: usize, other: u64) {
+    let mut change = unchanged();
+    change.set_place = place;
+    change.set = set;
+    change.other_place = other_place;
+    change.other = other;
+    changed(label, change, sample_state());
+}
+
+pub fn with_kind(label: &[u8], place: usize, kind: u8) {
+    let mut change = unchanged();
+    change.kind_place = place;
+    change.kind = kind;
+    changed(label, change, sample_state());
 }
 
 // Zero tables with a state.

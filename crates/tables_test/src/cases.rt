@@ -102,15 +102,15 @@ pub fn clauses() {
         b"last end below the literal count",
         build::counts(5, 6, 2, 2, 6, 9, 3, 5),
     );
-    build::with_exchange(b"clause {-6, 4}", 4);
-    build::with_literal(b"clause {4, -4}", 5, -4);
-    build::with_literal(b"clause {4, 4}", 5, 4);
-    build::with_literal(b"clause {0}", 6, 0);
-    build::with_literal(b"clause {5}, undeclared", 6, 5);
-    build::with_literal(b"clause {-7}, not in use", 6, -7);
-    build::with_literal(b"clause {-32768}", 6, -32768);
-    build::with_literal(b"formula clause {2, 5}", 3, 5);
-    build::with_literal(b"formula clause {2, 6}, a fork variable", 3, 6);
+    build::with_literals(b"clause {-6, 4}", 4, -6, 4);
+    build::with_literals(b"clause {4, -4}", 4, 4, -4);
+    build::with_literals(b"clause {4, 4}", 4, 4, 4);
+    build::with_literals(b"clause {0}", 6, 0, 6);
+    build::with_literals(b"clause {5}, undeclared", 6, 5, 6);
+    build::with_literals(b"clause {-7}, not in use", 6, -7, 6);
+    build::with_literals(b"clause {-32768}", 6, -32768, 6);
+    build::with_literals(b"formula clause {2, 5}", 2, 2, 5);
+    build::with_literals(b"formula clause {2, 6}, a fork variable", 2, 2, 6);
     build::with_state(
         b"no empty clause stated",
         build::counts(5, 6, 2, 2, 6, 8, 3, 0),
@@ -142,9 +142,9 @@ pub fn variables() {
 
 // Entries between the counts and the stated sizes, and past them.
 pub fn rest() {
-    build::with_literal(b"literal behind the last", 8, 1);
-    build::with_literal(b"literal 8192", 8191, -1);
-    build::with_literal(b"literal 8193", 8192, -1);
+    build::with_literals(b"literal behind the last", 8, 1, 0);
+    build::with_literals(b"literal 8192", 8191, -1, 0);
+    build::with_literals(b"literal 8193", 8192, -1, 0);
     build::with_end(b"end behind the last", 6, 8);
     build::with_end(b"end 2048", 2047, 1);
     build::with_end(b"end 2049", 2048, 1);
