@@ -119,7 +119,7 @@ fn variable_fits(kind: u8, set: u64, declared: bool, places: u64) -> bool
     if kind == 0 {
         return set == 0;
     }
-    if kind == 1 {
+    if kind < 2 {
         return true;
     }
     set & places == set
