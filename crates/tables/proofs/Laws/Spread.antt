@@ -22,6 +22,7 @@ use Rattle.tables.specs.declared.State.{State}
 use Rattle.tables.specs.Tables.{Tables, stretch, cut, kindsIn, setsIn, endsIn, clausesIn, modelIn}
 use Rattle.tables.specs.Spread.{flat, endsFrom, over, spread, stateOf, kindRow, setRow, blank, zeroState}
 use Rattle.tables.specs.WellFormed.{every, allOf, allVariables, isZero, isZeroLiteral, endsRise, long, withinLimits, boundInUse, clausesAddUp, countsFit, clausesFit, lowest, universalBits, forksAbove, variablesFit, wellFormed, valid}
+use Rattle.tables.specs.Statements.{Framed}
 use Rattle.tables.proofs.Laws.Tests.{every-at, every-from, all-replicate}
 use Rattle.tables.proofs.Laws.Cuts.{flat-length, ends-length, ends-rise, cut-flat}
 use Rattle.tables.proofs.Laws.Rows.{over-length, over-take, over-drop, over-over, over-rest}
@@ -62,13 +63,6 @@ module _ (t : Tables) (s : State) (lent : long t ≡ true) (formed : wellFormed 
   valid-held = valid-is (modelIn t s) valid-test
 
 -- ---- a valid model over tables
-
--- entries past the stated sizes are never changed
-pub record Framed (t t′ : Tables) : Type 0 where
-  pub literals : drop literalLimit (t′ .literals) ≡ drop literalLimit (t .literals)
-  pub ends : drop clauseLimit (t′ .ends) ≡ drop clauseLimit (t .ends)
-  pub sets : drop variableLimit (t′ .sets) ≡ drop variableLimit (t .sets)
-  pub kinds : drop variableLimit (t′ .kinds) ≡ drop variableLimit (t .kinds)
 
 zero-row : {A : Type 0} (z : A) (P : A → Bool) → P z ≡ true → (size : ℕ) (row t : List A) (n : ℕ) → length row ≡ n → allOf P (stretch n size (over size z row t)) ≡ true
 zero-row z P e size row t n h = rw (← h, over-rest z size row t) (all-replicate P z e (size - length row))
