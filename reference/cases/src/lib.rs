@@ -1,1 +1,41 @@
+//! Seeded cases for comparing checkers: a text, a list of records and the line
+//! that the reference checker prints for them.
+
 #![forbid(unsafe_code)]
+
+pub mod case;
+pub mod container;
+pub mod damage;
+pub mod desk;
+pub mod draft;
+pub mod faults;
+pub mod formulas;
+pub mod prover;
+pub mod random;
+pub mod seeded;
+pub mod step_borders;
+pub mod text_borders;
+
+use case::Case;
+
+/// The cases that do not depend on a seed.
+pub fn fixed() -> Vec<Case> {
+    [
+        desk::cases(),
+        text_borders::cases(),
+        step_borders::cases(),
+        faults::cases(),
+    ]
+    .concat()
+}
+
+/// The fixed cases, then seeded ones, `count` in all; without a count, the
+/// fixed cases and a thousand seeded ones.
+pub fn generate(seed: u64, count: Option<usize>) -> Vec<Case> {
+    let mut cases = fixed();
+    let count = count.unwrap_or(cases.len() + 1_000);
+    cases.truncate(count);
+    let seeded = (count - cases.len()) as u64;
+    cases.extend((0..seeded).map(|index| seeded::case(seed, index)));
+    cases
+}
