@@ -2,8 +2,6 @@
 
 use checker::records::record;
 
-use crate::draft::barred;
-
 /// A text and a list of records with the line expected for them.
 #[derive(Clone, Debug, PartialEq, Eq)]
 pub struct Case {
@@ -35,20 +33,5 @@ impl Case {
             records,
             expected,
         }
-    }
-
-    /// A case whose line is stated with it; a test compares the two.
-    pub fn stated(label: impl Into<String>, text: &str, records: Vec<u8>, line: &str) -> Case {
-        Case {
-            label: label.into(),
-            text: barred(text),
-            records,
-            expected: line.into(),
-        }
-    }
-
-    /// A stated case with no step.
-    pub fn of_text(label: impl Into<String>, text: &str, line: &str) -> Case {
-        Case::stated(label, text, Vec::new(), line)
     }
 }

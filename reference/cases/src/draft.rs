@@ -116,14 +116,3 @@ fn gapped(words: &[String], random: &mut Random) -> String {
     line.push('\n');
     line
 }
-
-/// A text in which a bar stands for a line feed.
-pub fn barred(text: &str) -> Vec<u8> {
-    text.replace('|', "\n").into_bytes()
-}
-
-/// Numbers, each followed by a space.
-pub fn named(numbers: impl IntoIterator<Item = i32>) -> String {
-    let words = numbers.into_iter().map(|number| format!("{number} "));
-    words.collect()
-}

@@ -6,27 +6,21 @@
 pub mod case;
 pub mod container;
 pub mod damage;
-pub mod desk;
 pub mod draft;
-pub mod faults;
 pub mod formulas;
+pub mod lent;
 pub mod prover;
+pub mod published;
 pub mod random;
 pub mod seeded;
-pub mod step_borders;
-pub mod text_borders;
+pub mod shaped;
+pub mod tabled;
 
 use case::Case;
 
 /// The cases that do not depend on a seed.
 pub fn fixed() -> Vec<Case> {
-    [
-        desk::cases(),
-        text_borders::cases(),
-        step_borders::cases(),
-        faults::cases(),
-    ]
-    .concat()
+    [tabled::cases(), shaped::cases(), published::cases()].concat()
 }
 
 /// The fixed cases, then seeded ones, `count` in all; without a count, the

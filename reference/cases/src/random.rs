@@ -12,11 +12,11 @@ impl Random {
     /// A generator of its own for one case of a seed.
     pub fn for_case(seed: u64, index: u64) -> Random {
         let mut mixed = Random(seed);
-        let offset = mixed.next();
+        let offset = mixed.word();
         Random(offset ^ index.wrapping_mul(0xD134_2543_DE82_EF95))
     }
 
-    pub fn next(&mut self) -> u64 {
+    pub fn word(&mut self) -> u64 {
         self.0 = self.0.wrapping_add(0x9E37_79B9_7F4A_7C15);
         let mut mixed = self.0;
         mixed = (mixed ^ (mixed >> 30)).wrapping_mul(0xBF58_476D_1CE4_E5B9);
@@ -26,7 +26,7 @@ impl Random {
 
     /// A number below the bound, which is not 0.
     pub fn below(&mut self, bound: usize) -> usize {
-        (self.next() % bound as u64) as usize
+        (self.word() % bound as u64) as usize
     }
 
     /// A number from `low` to `high`, both included.
