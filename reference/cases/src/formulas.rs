@@ -225,7 +225,7 @@ pub fn family_g(n: usize) -> Draft {
     draft
 }
 
-/// F_n under another numbering and with clauses that do not help.
+/// F_n under another numbering, with some signs turned and the clauses mixed.
 pub fn disguised_family(random: &mut Random, n: usize) -> Draft {
     let mut draft = family_f(n);
     draft.variables += random.below(3);

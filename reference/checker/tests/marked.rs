@@ -85,6 +85,13 @@ fn m9_every_universal_of_the_file() {
 }
 
 #[test]
+fn bits_follow_the_order_of_declaration() {
+    let state = State::load(b"p cnf 5 0\na 4 0\nd 5 4 0\na 3 1 0\ne 2 0\n").unwrap();
+    assert_eq!(state.universals(), [4, 3, 1]);
+    assert_eq!(export(&state).sets[..6], [4, 7, 2, 1, 1, 0]);
+}
+
+#[test]
 fn m10_a_repeated_literal_counts_once() {
     let state = State::load(b"p cnf 2 1\ne 1 2 0\n2 2 1 0\n").unwrap();
     assert_eq!(state.clause(1), Ok(&clause_of(&[1, 2])));
