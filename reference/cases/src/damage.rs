@@ -80,12 +80,13 @@ const BYTES: &[u8] = b" \n\r\t0-19acdepx\0\xFF";
 
 /// Changes a text in one place; the name says how.
 pub fn damaged_text(text: &[u8], random: &mut Random) -> (&'static str, Vec<u8>) {
-    match random.below(10) {
+    match random.below(11) {
         0 => ("a byte changed", changed_byte(text, random)),
         1 => ("a byte inserted", inserted_byte(text, random)),
         2 => ("cut short", text[..random.below(text.len() + 1)].to_vec()),
         3..=5 => damaged_token(text, random),
         6 => ("header changed", changed_header(text, random)),
+        7 => ("a complement inserted", complemented(text, random)),
         _ => damaged_line(text, random),
     }
 }
@@ -146,7 +147,7 @@ fn damaged_token(text: &[u8], random: &mut Random) -> (&'static str, Vec<u8>) {
         .map(<[u8]>::to_vec)
         .collect();
     let place = random.below(tokens.len());
-    let name = match random.below(5) {
+    let name = match random.below(4) {
         0 => {
             tokens.remove(place);
             "a token removed"
@@ -156,11 +157,6 @@ fn damaged_token(text: &[u8], random: &mut Random) -> (&'static str, Vec<u8>) {
             "a token doubled"
         }
         2 => {
-            let complement = complement_of(&tokens[place]);
-            tokens.insert(place, complement);
-            "a complement inserted"
-        }
-        3 => {
             tokens.insert(place, random.pick(TOKENS).to_vec());
             "a token inserted"
         }
@@ -173,11 +169,24 @@ fn damaged_token(text: &[u8], random: &mut Random) -> (&'static str, Vec<u8>) {
     (name, text_of(&lines))
 }
 
-fn complement_of(token: &[u8]) -> Vec<u8> {
-    match token.strip_prefix(b"-") {
-        Some(rest) => rest.to_vec(),
-        None => [b"-", token].concat(),
+/// Puts the complement of a literal at the front of a clause.
+fn complemented(text: &[u8], random: &mut Random) -> Vec<u8> {
+    let mut lines = lines_of(text);
+    let starts = |line: &[u8]| line.first().is_some_and(|b| b"-123456789".contains(b));
+    let clauses: Vec<usize> = (0..lines.len()).filter(|&i| starts(&lines[i])).collect();
+    if clauses.is_empty() {
+        return text.to_vec();
     }
+    let line = &mut lines[random.pick(&clauses)];
+    let tokens = line.split(|&byte| byte == b' ');
+    let tokens: Vec<&[u8]> = tokens.filter(|token| !token.is_empty()).collect();
+    let literal = tokens[random.below(tokens.len() - 1)];
+    let complement = match literal.strip_prefix(b"-") {
+        Some(rest) => rest.to_vec(),
+        None => [b"-", literal].concat(),
+    };
+    *line = [complement, line.clone()].join(&b' ');
+    text_of(&lines)
 }
 
 /// Changes V or C by a little, or to a border.

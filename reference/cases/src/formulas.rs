@@ -122,11 +122,21 @@ fn random_prefix(random: &mut Random, universals: &[u32], existentials: &[u32]) 
             rest = behind;
         } else {
             let set = random.some(universals, percent);
-            prefix.push(Prefix::Existential(rest[0], set));
+            let place = random.between(first_place(&prefix, &set), prefix.len());
+            prefix.insert(place, Prefix::Existential(rest[0], set));
             rest = &rest[1..];
         }
     }
     prefix
+}
+
+/// The first place behind all `a` lines that declare a member of the set.
+fn first_place(prefix: &[Prefix], set: &[u32]) -> usize {
+    let declares = |line: &Prefix| match line {
+        Prefix::Universals(named) => named.iter().any(|variable| set.contains(variable)),
+        _ => false,
+    };
+    prefix.iter().rposition(declares).map_or(0, |last| last + 1)
 }
 
 /// A clause of different variables.

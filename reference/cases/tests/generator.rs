@@ -31,17 +31,17 @@ fn a_seed_gives_the_same_cases_on_every_machine() {
 }
 
 const SEED_1: [&str; 12] = [
-    "formula 8 10",
-    "bad 11 29",
-    "open 6",
+    "refuted 1 13",
+    "refuted 12 26",
+    "open 7",
     "bad 4 29",
+    "formula 5 10",
     "formula 2 10",
-    "formula 8 14",
     "bad 1 20",
-    "formula 14 14",
+    "formula 12 10",
     "bad 170 22",
-    "open 1",
-    "refuted 1 20",
+    "bad 8 20",
+    "refuted 1 24",
     "bad 68 20",
 ];
 
