@@ -12,16 +12,16 @@ use super::limits::CLAUSE_LIMIT;
 use super::limits::LITERAL_LIMIT;
 use super::limits::VARIABLE_LIMIT;
 
-pub fn zero_literals(entries: &[i16]) -> bool
-    ensures { λ r. ⌜ r ≡ allOf isZeroLiteral (now (entries .entry)) ⌝ }
+pub fn zero_literals(literals: &[i16]) -> bool
+    ensures { λ r. ⌜ r ≡ allOf isZeroLiteral (now (literals .entry)) ⌝ }
 {
-    let mut i = 0;
-    while i < entries.len() {
-        let entry = entries[i];
-        if entry != 0 {
+    let mut place = 0;
+    while place < literals.len() {
+        let literal = literals[place];
+        if literal != 0 {
             return false;
         }
-        i += 1;
+        place += 1;
     }
     true
 }

@@ -1,9 +1,11 @@
 -- Clauses and variables added to tables that hold a model: what the tables then hold is the model with them.
 --     add-literals, add-ends, add-sets, add-kinds     an addition of any size, table by table
---     One, Two, Formula             an addition of one clause; of two clauses and a variable; one more formula clause
---     one-clause, two-clauses       of well-formed tables, after a step's entries were stored
---     formula-clause                the same for the reader, as long as there is no step
---     room-is, room-told, room-one, room-two, step-room        what the leaves require
+--     One, Two                          an addition of one clause; of two clauses and a variable
+--     one-clause, two-clauses           of well-formed tables, after a step's entries were stored; added-all, for an addition of any size
+--     formula-clauses, formula-state, formula-tables     one more formula clause, for the reader, as long as there is no derived one
+--     clause-count, literal-count, variable-count        the state's counts are the model's
+--     room-is, room-told, room-one, room-two, step-room  whether there is room, and what the leaves require
+--     steps-kept, variables-kept, room-next, room-variable, fork-..     for the leaves that are made of others
 -- Assumes nothing.
 use mathlib.Core.Path.{_≡_, refl, ap, sym, _∙_}
 use mathlib.Core.Bool.{true, false, _||_}
