@@ -3,15 +3,14 @@ use mathlib.Core.Path.{_≡_, refl, sym, ap, _∙_}
 use mathlib.Core.Bool.{Bool, true, false, cond}
 use mathlib.Core.List.{List, [], _∷_, _++_, append-nil}
 use mathlib.Core.Option.{Option, none, some}
-use Prim.Native.Nat.{ℕ, zero, suc, _+_, _-_, _*_, _≤_, _<_}
+use Prim.Native.Nat.{ℕ, _+_, _-_, _≤_, _<_}
 use native.Mathlib.Numerals.{add-one}
 use native.Mathlib.Omega.{arith}
-use lib.ListN.{length, take, drop, getD, set}
+use lib.ListN.{length, take, drop, set}
 use lib.Seq.{length-take-le, take-suc-set, append-snoc}
 use Rattle.dqbf.specs.Text.{isZero, prepend, closed}
-use Rattle.forms.specs.Working.{wordsOf, after, orZero, entryOf, entries, countOf, Cut, Gathered}
+use Rattle.forms.specs.Working.{wordsOf, orZero, entryOf, entries, countOf, Cut, Gathered}
 use Rattle.forms.specs.declared.text.Token.{Token}
-use Rattle.forms.specs.declared.form.Gathering.{Gathering}
 use Rattle.forms.specs.declared.form.Gathering.the-variants.{Count, Open}
 use Rattle.forms.proofs.Laws.Pieces.{words-some, after-none, after-some}
 use Rattle.forms.proofs.Laws.Numbers.{entry-none}
@@ -57,8 +56,8 @@ module _ (signed : Bool) (line out : List ℕ) (n at : ℕ) (o : Option (List �
   more h =
       so-far
       ∙ ap (behind (take n out))
-        (ap (closed (entryOf signed)) (cut .rest ∙ ap (λ (ws : List (List ℕ)). word ∷ ws) (after-some line (t .to) h))
-        ∙ closed-more (entryOf signed) word (wordsOf (drop (t .to + 1) line)) (words-some (drop (t .to + 1) line)))
+      (ap (closed (entryOf signed)) (cut .rest ∙ ap (λ (ws : List (List ℕ)). word ∷ ws) (after-some line (t .to) h))
+      ∙ closed-more (entryOf signed) word (wordsOf (drop (t .to + 1) line)) (words-some (drop (t .to + 1) line)))
 
   pub gather-done : t .to ≡ length line → isZero word ≡ true → Gathered o (Count n) out
   gather-done h z = gathered-some o n out fits (last h ∙ rw z)
