@@ -1,0 +1,4 @@
+pub mod Tables
+pub mod Spread
+pub mod WellFormed
+pub mod Adding
