@@ -1,0 +1,5 @@
+pub mod Held
+pub mod Join
+pub mod Literals
+pub mod Parts
+pub mod Writing

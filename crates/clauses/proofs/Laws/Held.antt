@@ -1,0 +1,36 @@
+-- The front part of a list, an element at a time; a held clause (specs/Held.antt) is the front part of its entries.
+-- Offers: `part-front`, `part-end` for a list; `held-front`, `held-end` for a held clause.
+use mathlib.Core.Path.{_≡_}
+use mathlib.Core.List.{List, [], _∷_}
+use Prim.Native.Nat.{ℕ, _+_, _<_, _≤_, min}
+use native.Mathlib.Numerals.{add-one}
+use native.Mathlib.Omega.{arith}
+use lib.IntN.{pos}
+use lib.ListN.{length, take, drop, getD, length-take, drop-of-length-le}
+use lib.Seq.{drop-cons, getD-take}
+use Rattle.clauses.specs.declared.held.Held.{Held}
+use Rattle.clauses.specs.Held.{clauseOf}
+
+-- ---- the first n elements from place i on
+
+module _ {A : Type 0} (n : ℕ) (xs : List A) (i : ℕ) where
+  pub part-front : (d : A) → i < n → i < length xs → drop i (take n xs) ≡ getD xs i d ∷ drop (i + 1) (take n xs)
+  part-front d h k =
+      let q : i < length (take n xs) = omega (arith, length-take n xs) in
+      rw (add-one i, drop-cons (take n xs) i d q, getD-take n xs i d h)
+
+  pub part-end : min n (length xs) ≤ i → drop i (take n xs) ≡ []
+  part-end h =
+      let q : length (take n xs) ≤ i = omega (arith, length-take n xs) in
+      drop-of-length-le (take n xs) q
+
+-- ---- the literals of a held clause from place i on
+
+module _ (x : Held) (i : ℕ) where
+  pub held-front : i < length (clauseOf x) → drop i (clauseOf x) ≡ getD (x .literals) i (pos 0) ∷ drop (i + 1) (clauseOf x)
+  held-front h =
+      let n : length (clauseOf x) ≡ min (x .length) (length (x .literals)) = length-take (x .length) (x .literals) in
+      part-front (x .length) (x .literals) i (pos 0) (omega arith) (omega arith)
+
+  pub held-end : length (clauseOf x) ≤ i → drop i (clauseOf x) ≡ []
+  held-end h = drop-of-length-le (clauseOf x) h

@@ -1,0 +1,97 @@
+// The join of two held clauses: their union in order, which may have more than 32 literals and complementary ones.
+use crate::held;
+use crate::held::Held;
+use dqbf::literal;
+ghost use mathlib.Core.Path.{_≡_};
+ghost use Prim.Native.Nat.{_+_, _<_, _≤_};
+ghost use lib.ListN.{length};
+ghost use Rattle.dqbf.specs.Literal as Literal;
+ghost use Rattle.clauses.specs.Held.{clauseOf};
+ghost use Rattle.clauses.specs.Join.{NextLiteral};
+ghost use Rattle.clauses.specs.Writing.{overwrite};
+
+// The place of a literal in the order of clauses: by variable, a variable before its negation.
+fn rank(literal: i16) -> u32
+    ensures { λ r. ⌜ r ≡ Literal.rank literal ⌝ }
+{
+    let double = 2 * (literal::variable_of(literal) as u32);
+    if literal < 0 {
+        return double + 1;
+    }
+    double
+}
+
+// A literal of the join, and the places of the two clauses behind it.
+pub struct Next {
+    pub literal: i16,
+    pub i: usize,
+    pub j: usize,
+}
+
+// The next literal of the join, where `i` literals of the first clause and `j` of the second are joined and one at least is left.
+fn next_literal(x: Held, y: Held, i: usize, j: usize) -> Next
+    requires { ⌜ (i ≤ length (clauseOf x)) × (j ≤ length (clauseOf y)) × (i + j < length (clauseOf x) + length (clauseOf y)) ⌝ }
+    ensures { λ r. ⌜ NextLiteral (clauseOf x) (clauseOf y) i j r ⌝ }
+{
+    let n = held::width(x);
+    let m = held::width(y);
+    if i >= n {
+        let k = y.literals[j];
+        return Next {
+            literal: k,
+            i,
+            j: j + 1,
+        };
+    }
+    let l = x.literals[i];
+    if j >= m {
+        return Next {
+            literal: l,
+            i: i + 1,
+            j,
+        };
+    }
+    let k = y.literals[j];
+    let p = rank(l);
+    let q = rank(k);
+    if p == q {
+        return Next {
+            literal: l,
+            i: i + 1,
+            j: j + 1,
+        };
+    }
+    if p < q {
+        return Next {
+            literal: l,
+            i: i + 1,
+            j,
+        };
+    }
+    Next {
+        literal: k,
+        i,
+        j: j + 1,
+    }
+}
+
+// The join of two clauses, to the front of the tail; the number of its literals.
+pub fn write_join(tail: &mut [i16], x: Held, y: Held) -> usize
+    requires { ⌜ length (Literal.join (clauseOf x) (clauseOf y)) ≤ length (now tail) ⌝ }
+    ensures { λ r. ⌜ (r ≡ length (Literal.join (clauseOf x) (clauseOf y)))
+        × (now (tail .exit) ≡ overwrite (Literal.join (clauseOf x) (clauseOf y)) (now (tail .entry))) ⌝ }
+{
+    let total = held::width(x) + held::width(y);
+    let mut i = 0;
+    let mut j = 0;
+    let mut count = 0;
+    while i + j < total {
+        let next = next_literal(x, y, i, j);
+        let l = next.literal;
+        tail[count] = l;
+        i = next.i;
+        j = next.j;
+        count += 1;
+    }
+    count
+}

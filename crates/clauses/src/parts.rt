@@ -1,0 +1,1 @@
+// Parts of a held clause: without a literal, and by a mask.

@@ -1,0 +1,1 @@
+// Dependency sets of parts of a held clause.
