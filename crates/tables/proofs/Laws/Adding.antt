@@ -58,7 +58,7 @@ module _ (Cs : List Clause) (C : Clause) where
   unfolding endsFrom
   ends-one t h =
       stored-one (over clauseLimit 0 (endsFrom 0 Cs) t) (length Cs) (total Cs + length C)
-        (omega (arith, over-size 0 clauseLimit (endsFrom 0 Cs) t (omega (arith, ends-length 0 Cs))))
+      (omega (arith, over-size 0 clauseLimit (endsFrom 0 Cs) t (omega (arith, ends-length 0 Cs))))
       ∙ ends-more Cs (C ∷ []) t (omega arith)
 
 empty-skip : (k : ℕ) (l : ℤ) (D : Clause) (Cs : List Clause) → emptyFrom k ((l ∷ D) ∷ Cs) ≡ emptyFrom (suc k) Cs
@@ -124,7 +124,7 @@ Two C D s = record { clauses = C ∷ D ∷ []; forks = s ∷ [] }
 
 -- states are equal by their counts
 by-counts : (s r : State) → s .bound .0 ≡ r .bound .0 → s .variables .0 ≡ r .variables .0 → s .universals ≡ r .universals → s .formula .0 ≡ r .formula .0
-  → s .clauses .0 ≡ r .clauses .0 → s .literals ≡ r .literals → s .steps .0 ≡ r .steps .0 → s .empty .0 ≡ r .empty .0 → s ≡ r
+    → s .clauses .0 ≡ r .clauses .0 → s .literals ≡ r .literals → s .steps .0 ≡ r .steps .0 → s .empty .0 ≡ r .empty .0 → s ≡ r
 by-counts s r a b c d e f g h = λ i. record {
   bound = record { 0 = a i };
   variables = record { 0 = b i };
@@ -142,7 +142,7 @@ module _ (m : Model) (v : Valid tables m) where
   state-one C =
       let variables : length (m .kinds) + length (m .forks) ≡ length (m .kinds) + length (m .forks ++ []) = omega (arith, length-append (m .forks) []) in
       let made : length (m .derived) - length (m .forks) + 1 ≡ length (m .derived ++ (C ∷ [])) - length (m .forks ++ []) =
-        omega (arith, v .made, length-append (m .derived) (C ∷ []), length-append (m .forks) []) in
+      omega (arith, v .made, length-append (m .derived) (C ∷ []), length-append (m .forks) []) in
       rw (more-clauses m (One C))
       (by-counts _ _ refl variables refl refl (length-one (clauses m) C) (total-one (clauses m) C) made (empty-more (clauses m) C))
 
@@ -152,7 +152,7 @@ module _ (m : Model) (v : Valid tables m) where
       let Cs = clauses m ++ (C ∷ []) in
       let variables : length (m .kinds) + length (m .forks) + 1 ≡ length (m .kinds) + length (m .forks ++ (s ∷ [])) = omega (arith, length-append (m .forks) (s ∷ [])) in
       let made : length (m .derived) - length (m .forks) + 1 ≡ length (m .derived ++ (C ∷ D ∷ [])) - length (m .forks ++ (s ∷ [])) =
-        omega (arith, v .made, length-append (m .derived) (C ∷ D ∷ []), length-append (m .forks) (s ∷ [])) in
+      omega (arith, v .made, length-append (m .derived) (C ∷ D ∷ []), length-append (m .forks) (s ∷ [])) in
       rw (more-clauses m (Two C D s), ← append-assoc (clauses m) (C ∷ []) (D ∷ []), empty-more (clauses m) C, length-one (clauses m) C, total-one (clauses m) C)
       (by-counts _ _ refl variables refl refl (length-one Cs D) (total-one Cs D) made (empty-more Cs D))
 
@@ -170,7 +170,7 @@ module _ (m : Model) (C : Clause) (none : m .derived ≡ []) where
       (by-counts _ _ refl refl refl (length-one (m .formula) C) (length-one (clauses m) C) (total-one (clauses m) C) refl (empty-more (clauses m) C))
 
   pub formula-tables : (t : Tables) → length (clauses m) < clauseLimit → total (clauses m) + length C ≤ literalLimit
-    → tablesOf (stored (spread m t .literals) (total (clauses m)) C) (set (spread m t .ends) (length (clauses m)) (total (clauses m) + length C)) (spread m t .sets) (spread m t .kinds)
+      → tablesOf (stored (spread m t .literals) (total (clauses m)) C) (set (spread m t .ends) (length (clauses m)) (total (clauses m) + length C)) (spread m t .sets) (spread m t .kinds)
       ≡ spread (withFormula m C) t
   unfolding spread setRow kindRow withFormula
   formula-tables t h k = rw formula-clauses (λ i. record {
@@ -242,13 +242,13 @@ module _ (t : Tables) (s : State) (lent : long t ≡ true) (formed : wellFormed 
   -- ---- one clause
 
   one-form : (C : Clause) → s .clauses .0 < length (t .ends)
-    → tablesOf (stored (t .literals) (s .literals) C) (set (t .ends) (s .clauses .0) (s .literals + length C)) (t .sets) (t .kinds) ≡ storedAll t s (One C)
+      → tablesOf (stored (t .literals) (s .literals) C) (set (t .ends) (s .clauses .0) (s .literals + length C)) (t .sets) (t .kinds) ≡ storedAll t s (One C)
   unfolding flat endsFrom
   one-form C h =
       rw (append-nil C, stored-one (t .ends) (s .clauses .0) (s .literals + length C) h, stored-none (t .sets) (s .variables .0), stored-none (t .kinds) (s .variables .0))
 
   pub one-clause : (C : Clause) → Fits tables m (One C)
-    → Added t s (One C) (tablesOf (stored (t .literals) (s .literals) C) (set (t .ends) (s .clauses .0) (s .literals + length C)) (t .sets) (t .kinds)) (stepCounted (clauseEnded s (length C)))
+      → Added t s (One C) (tablesOf (stored (t .literals) (s .literals) C) (set (t .ends) (s .clauses .0) (s .literals + length C)) (t .sets) (t .kinds)) (stepCounted (clauseEnded s (length C)))
   one-clause C fits = record {
     tables = one-form C (omega (arith, long-is t lent .ends, room-one C fits .clauses-fit)) ∙ added-all (One C) fits;
     state = ap (λ (r : State). stepCounted (clauseEnded r (length C))) (sym (state-held t s lent formed)) ∙ state-one m v C;
@@ -257,7 +257,7 @@ module _ (t : Tables) (s : State) (lent : long t ≡ true) (formed : wellFormed 
   -- ---- two clauses and a variable
 
   two-form : (C D : Clause) (w : Set) → RoomFor s 2 (length C + length D) 1
-    → tablesOf (stored (stored (t .literals) (s .literals) C) (s .literals + length C) D)
+      → tablesOf (stored (stored (t .literals) (s .literals) C) (s .literals + length C) D)
       (set (set (t .ends) (s .clauses .0) (s .literals + length C)) (s .clauses .0 + 1) (s .literals + length C + length D))
       (set (t .sets) (s .variables .0) w) (set (t .kinds) (s .variables .0) 3)
       ≡ storedAll t s (Two C D w)
@@ -267,12 +267,18 @@ module _ (t : Tables) (s : State) (lent : long t ≡ true) (formed : wellFormed 
       let c : s .clauses .0 + 1 < length (t .ends) = omega (arith, L .ends, room .clauses-fit) in
       let first = stored-one (t .ends) (s .clauses .0) (s .literals + length C) (omega arith) in
       let second = stored-one (set (t .ends) (s .clauses .0) (s .literals + length C)) (s .clauses .0 + 1) (s .literals + length C + length D) (simp length-set c) in
-      rw (append-nil D, stored-stored (t .literals) (s .literals) C D (omega (arith, L .literals, room .literals-fit)), second, first,
-          stored-stored (t .ends) (s .clauses .0) ((s .literals + length C) ∷ []) ((s .literals + length C + length D) ∷ []) (omega arith),
-          stored-one (t .sets) (s .variables .0) w (omega (arith, L .sets, room .variables-fit)), stored-one (t .kinds) (s .variables .0) 3 (omega (arith, L .kinds, room .variables-fit)))
+      rw (
+        append-nil D,
+        stored-stored (t .literals) (s .literals) C D (omega (arith, L .literals, room .literals-fit)),
+        second,
+        first,
+        stored-stored (t .ends) (s .clauses .0) ((s .literals + length C) ∷ []) ((s .literals + length C + length D) ∷ []) (omega arith),
+        stored-one (t .sets) (s .variables .0) w (omega (arith, L .sets, room .variables-fit)),
+        stored-one (t .kinds) (s .variables .0) 3 (omega (arith, L .kinds, room .variables-fit)),
+      )
 
   pub two-clauses : (C D : Clause) (w : Set) → Fits tables m (Two C D w)
-    → Added t s (Two C D w) (tablesOf (stored (stored (t .literals) (s .literals) C) (s .literals + length C) D)
+      → Added t s (Two C D w) (tablesOf (stored (stored (t .literals) (s .literals) C) (s .literals + length C) D)
       (set (set (t .ends) (s .clauses .0) (s .literals + length C)) (s .clauses .0 + 1) (s .literals + length C + length D))
       (set (t .sets) (s .variables .0) w) (set (t .kinds) (s .variables .0) 3))
       (stepCounted (variableAdded (clauseEnded (clauseEnded s (length C)) (length D))))

@@ -50,8 +50,12 @@ module _ {A : Type 0} (z : A) (size : ℕ) where
   pub over-size : (row t : List A) → length row ≤ size → size ≤ length (over size z row t)
   unfolding over
   over-size row t h =
-      omega (arith, length-append row (replicate (size - length row) z ++ drop size t), length-append (replicate (size - length row) z) (drop size t),
-             length-replicate (size - length row) z)
+      omega (
+        arith,
+        length-append row (replicate (size - length row) z ++ drop size t),
+        length-append (replicate (size - length row) z) (drop size t),
+        length-replicate (size - length row) z,
+      )
 
   pub over-take : (row t : List A) → take (length row) (over size z row t) ≡ row
   unfolding over
