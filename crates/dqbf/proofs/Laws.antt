@@ -1,9 +1,14 @@
-pub mod Clauses
-pub mod Counting
-pub mod Lists
-pub mod Literals
-pub mod Masks
-pub mod Order
-pub mod Signed
+-- Laws of the definitions, each group in the order of its definitions
 pub mod Tests
+pub mod Lists
+pub mod Parts
+pub mod Signed
+pub mod Literals
+pub mod Clauses
+pub mod Order
+pub mod Masks
 pub mod Words
+pub mod Counting
+pub mod Models
+pub mod Outcomes
+pub mod Dependencies

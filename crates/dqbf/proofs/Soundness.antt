@@ -1,10 +1,10 @@
-pub mod Calls
-pub mod Forks
-pub mod Link
-pub mod Moves
+-- Every accepted step keeps a true formula true: first over places of universals, then carried over to variables
 pub mod Places
-pub mod Rules
+pub mod Moves
+pub mod Forks
 pub mod Settings
-pub mod Steps
 pub mod Truth
+pub mod Rules
 pub mod View
+pub mod Steps
+pub mod Link
