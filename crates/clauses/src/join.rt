@@ -7,8 +7,8 @@ ghost use Prim.Native.Nat.{_+_, _<_, _≤_};
 ghost use lib.ListN.{length};
 ghost use Rattle.dqbf.specs.Literal as Literal;
 ghost use Rattle.clauses.specs.Held.{clauseOf};
-ghost use Rattle.clauses.specs.Join.{NextLiteral};
-ghost use Rattle.clauses.specs.Writing.{overwrite};
+ghost use Rattle.clauses.specs.Join.{NextLiteral, summaryOf};
+ghost use Rattle.clauses.specs.Writing.{Written};
 
 // The place of a literal in the order of clauses: by variable, a variable before its negation.
 fn rank(literal: i16) -> u32
@@ -78,8 +78,7 @@ fn next_literal(x: Held, y: Held, i: usize, j: usize) -> Next
 // The join of two clauses, to the front of the tail; the number of its literals.
 pub fn write_join(tail: &mut [i16], x: Held, y: Held) -> usize
     requires { ⌜ length (Literal.join (clauseOf x) (clauseOf y)) ≤ length (now tail) ⌝ }
-    ensures { λ r. ⌜ (r ≡ length (Literal.join (clauseOf x) (clauseOf y)))
-        × (now (tail .exit) ≡ overwrite (Literal.join (clauseOf x) (clauseOf y)) (now (tail .entry))) ⌝ }
+    ensures { λ r. ⌜ Written (Literal.join (clauseOf x) (clauseOf y)) (now (tail .entry)) (now (tail .exit)) r ⌝ }
 {
     let total = held::width(x) + held::width(y);
     let mut i = 0;
@@ -94,4 +93,39 @@ pub fn write_join(tail: &mut [i16], x: Held, y: Held) -> usize
         count += 1;
     }
     count
+}
+
+// Whether a clause in order has complementary literals: they stand side by side.
+pub fn clashes(clause: &[i16]) -> bool
+    ensures { λ r. ⌜ r ≡ Literal.clashes (now (clause .entry)) ⌝ }
+{
+    let mut i = 0;
+    while i + 1 < clause.len() {
+        let l = clause[i];
+        i += 1;
+        let k = clause[i];
+        if literal::variable_of(l) == literal::variable_of(k) {
+            return true;
+        }
+    }
+    false
+}
+
+// What is asked of a join before it is written.
+pub struct JoinSummary {
+    pub width: usize,
+    pub clashes: bool,
+}
+
+// The whole join is looked at, up to 64 literals.
+pub fn join_summary(x: Held, y: Held) -> JoinSummary
+    ensures { λ r. ⌜ r ≡ summaryOf (clauseOf x) (clauseOf y) ⌝ }
+{
+    let mut joined = [0i16; 64];
+    let width = write_join(&mut joined, x, y);
+    let clash = clashes(&joined[..width]);
+    JoinSummary {
+        width,
+        clashes: clash,
+    }
 }

@@ -1,1 +1,115 @@
-// Parts of a held clause: without a literal, and by a mask.
+// Parts of a held clause: without a literal, and the literals that a mask picks, bit i the one at place i.
+use crate::held;
+use crate::held::Held;
+ghost use mathlib.Core.Path.{_≡_};
+ghost use mathlib.Core.List.{[], _∷_, _++_};
+ghost use Prim.Native.Nat.{_<_, _≤_};
+ghost use lib.ListN.{length};
+ghost use Rattle.dqbf.specs.Literal as Literal;
+ghost use Rattle.clauses.specs.Held.{clauseOf};
+ghost use Rattle.clauses.specs.Writing.{Written};
+
+// The clause without a literal, to the front of the tail; the number of its literals.
+pub fn write_without(tail: &mut [i16], x: Held, literal: i16) -> usize
+    requires { ⌜ length (Literal.without literal (clauseOf x)) ≤ length (now tail) ⌝ }
+    ensures { λ r. ⌜ Written (Literal.without literal (clauseOf x)) (now (tail .entry)) (now (tail .exit)) r ⌝ }
+{
+    let n = held::width(x);
+    let mut i = 0;
+    let mut count = 0;
+    while i < n {
+        let l = x.literals[i];
+        i += 1;
+        if l != literal {
+            tail[count] = l;
+            count += 1;
+        }
+    }
+    count
+}
+
+// The clause without a literal, by value.
+pub fn held_without(x: Held, literal: i16) -> Held
+    ensures { λ r. ⌜ clauseOf r ≡ Literal.without literal (clauseOf x) ⌝ }
+{
+    let mut entries = [0i16; 32];
+    let count = write_without(&mut entries, x, literal);
+    Held {
+        literals: entries,
+        length: count,
+    }
+}
+
+// The literals that a mask picks, to the front of the tail; their number.
+fn write_picked(tail: &mut [i16], x: Held, mask: u32) -> usize
+    requires { ⌜ length (Literal.pick mask (clauseOf x)) ≤ length (now tail) ⌝ }
+    ensures { λ r. ⌜ Written (Literal.pick mask (clauseOf x)) (now (tail .entry)) (now (tail .exit)) r ⌝ }
+{
+    let n = held::width(x);
+    let mut i = 0;
+    let mut count = 0;
+    let mut left = mask;
+    while i < n {
+        let l = x.literals[i];
+        i += 1;
+        let picked = left % 2;
+        left = left / 2;
+        if picked == 1 {
+            tail[count] = l;
+            count += 1;
+        }
+    }
+    count
+}
+
+// The literals that a mask picks and a last one behind them, to the front of the tail; their number.
+pub fn write_part(tail: &mut [i16], x: Held, mask: u32, last: i16) -> usize
+    requires { ⌜ length (Literal.pick mask (clauseOf x)) < length (now tail) ⌝ }
+    ensures { λ r. ⌜ Written (Literal.pick mask (clauseOf x) ++ (last ∷ [])) (now (tail .entry)) (now (tail .exit)) r ⌝ }
+{
+    let count = write_picked(tail, x, mask);
+    tail[count] = last;
+    count + 1
+}
+
+// How many literals a mask picks.
+pub fn part_length(x: Held, mask: u32) -> usize
+    ensures { λ r. ⌜ r ≡ length (Literal.pick mask (clauseOf x)) ⌝ }
+{
+    let n = held::width(x);
+    let mut i = 0;
+    let mut count = 0;
+    let mut left = mask;
+    while i < n {
+        i += 1;
+        let picked = left % 2;
+        left = left / 2;
+        if picked == 1 {
+            count += 1;
+        }
+    }
+    count
+}
+
+// Whether two masks together pick every literal and no place beyond.
+pub fn covers(x: Held, left: u32, right: u32) -> bool
+    ensures { λ r. ⌜ r ≡ Literal.covers left right (clauseOf x) ⌝ }
+{
+    let n = held::width(x);
+    let mut i = 0;
+    let mut a = left;
+    let mut b = right;
+    while i < n {
+        i += 1;
+        let picked = a % 2 + b % 2;
+        a = a / 2;
+        b = b / 2;
+        if picked == 0 {
+            return false;
+        }
+    }
+    if a != 0 {
+        return false;
+    }
+    b == 0
+}

@@ -1,13 +1,14 @@
 -- The join of two clauses, a literal at a time (specs/Join.antt): which literal comes next, by what is in front.
 -- C from place i on and D from place j on are to be joined; l and k are their literals in front, a the literal that is answered.
 use mathlib.Core.Path.{_≡_, refl, ap, sym, _∙_}
+use mathlib.Core.Bool.{Bool, true, false, cond}
 use mathlib.Core.List.{[], _∷_}
-use Prim.Native.Nat.{ℕ, _+_, _<_, _≤_}
+use Prim.Native.Nat.{ℕ, suc, _+_, _<_, _≤_}
 use native.Mathlib.Omega.{arith}
 use borrow.Author.Tests.{lt-ltb, le-ltb}
 use lib.IntN.{ℤ}
 use lib.ListN.{length, drop}
-use Rattle.dqbf.specs.Literal.{Clause, same, rank, join}
+use Rattle.dqbf.specs.Literal.{Clause, same, rank, before, join}
 use Rattle.dqbf.proofs.Laws.Literals.{same-same, same-not}
 use Rattle.clauses.specs.Join.{NextLiteral}
 use Rattle.clauses.proofs.Laws.Literals.{rank-same}
@@ -16,6 +17,18 @@ pub join-nil : (C : Clause) → join C [] ≡ C
 unfolding join
 join-nil [] = refl
 join-nil (l ∷ C) = refl
+
+pub join-short : (C D : Clause) → length (join C D) ≤ length C + length D
+unfolding join
+join-short [] D = omega arith
+join-short (l ∷ C) [] = omega arith
+join-short (l ∷ C) (k ∷ D) = go (same l k) (before l k) (join-short C D) (join-short C (k ∷ D)) (join-short (l ∷ C) D)
+  where
+    go : (b c : Bool) → length (join C D) ≤ length C + length D → length (join C (k ∷ D)) ≤ length C + suc (length D) → length (join (l ∷ C) D) ≤ suc (length C) + length D
+        → length (cond b (l ∷ join C D) (cond c (l ∷ join C (k ∷ D)) (k ∷ join (l ∷ C) D))) ≤ suc (length C) + suc (length D)
+    go true c both first second = omega arith
+    go false true both first second = omega arith
+    go false false both first second = omega arith
 
 pub join-ends : {C D : Clause} → C ≡ [] → D ≡ [] → join C D ≡ []
 unfolding join

@@ -1,13 +1,22 @@
--- `holds`, a literal at a time: D is what a loop has before it, k its first literal and R the rest.
-use mathlib.Core.Path.{_≡_, ap, sym, _∙_}
-use mathlib.Core.Logic.{_≢_}
-use mathlib.Core.Bool.{true, false}
+-- The operations on one clause (dqbf's specs/Literal.antt), a literal at a time: `holds`, `without`, `pick`, `covers`, `clashes`.
+-- Of each: what it is where a loop has nothing before it, D ≡ [], and by its literal in front, D ≡ k ∷ R.
+use mathlib.Core.Path.{_≡_, refl}
+use mathlib.Core.Logic.{_⊎_, inl, inr, _≢_}
+use mathlib.Core.Bool.{Bool, true, false, _&&_, _||_}
 use mathlib.Core.List.{[], _∷_}
-use lib.IntN.{ℤ}
-use Rattle.dqbf.specs.Literal.{Clause, holds}
+use Prim.Native.Nat.{ℕ, _+_, _/_, _%_, _≤_}
+use native.Mathlib.Omega.{arith}
+use borrow.Author.Tests.{eq-eqb, ne-eqb, eqb-false}
+use lib.Dec.{eqb}
+use lib.IntN.{ℤ, natAbs}
+use lib.ListN.{length}
+use Rattle.dqbf.specs.Literal.{Clause, holds, without, pick, covers, clashes}
 use Rattle.dqbf.proofs.Laws.Literals.{same-same, same-not}
+use Rattle.dqbf.proofs.Laws.Tests.{either, or-left, or-right}
 
 module _ (l : ℤ) where
+  -- ---- holds
+
   pub holds-end : {D : Clause} → D ≡ [] → holds l D ≡ false
   unfolding holds
   holds-end e = rw e
@@ -20,3 +29,78 @@ module _ (l : ℤ) where
     pub holds-passed : k ≢ l → holds l D ≡ holds l R
     unfolding holds
     holds-passed n = rw (e, same-not k l n)
+
+  -- ---- without
+
+  pub without-end : {D : Clause} → D ≡ [] → without l D ≡ []
+  unfolding without
+  without-end e = rw e
+
+  module _ {D R : Clause} {k : ℤ} (e : D ≡ k ∷ R) where
+    pub without-kept : k ≢ l → without l D ≡ k ∷ without l R
+    unfolding without
+    without-kept n = rw (e, same-not k l n)
+
+    pub without-dropped : k ≡ l → without l D ≡ without l R
+    unfolding without
+    without-dropped q = rw (e, q, same-same l)
+
+-- ---- pick
+
+module _ (mask : ℕ) where
+  pub pick-end : {D : Clause} → D ≡ [] → pick mask D ≡ []
+  unfolding pick
+  pick-end e = rw e
+
+  module _ {D R : Clause} {k : ℤ} (e : D ≡ k ∷ R) where
+    pub pick-taken : mask % 2 ≡ 1 → pick mask D ≡ k ∷ pick (mask / 2) R
+    unfolding pick
+    pick-taken q = rw (e, eq-eqb (mask % 2) 1 q)
+
+    pub pick-passed : mask % 2 ≢ 1 → pick mask D ≡ pick (mask / 2) R
+    unfolding pick
+    pick-passed n = rw (e, ne-eqb (mask % 2) 1 n)
+
+-- ---- covers
+
+either-bit : (a b : ℕ) → a % 2 + b % 2 ≢ 0 → (eqb (a % 2) 1 || eqb (b % 2) 1) ≡ true
+either-bit a b n = go (either (eqb (a % 2) 1))
+  where
+    go : (eqb (a % 2) 1 ≡ true) ⊎ (eqb (a % 2) 1 ≡ false) → (eqb (a % 2) 1 || eqb (b % 2) 1) ≡ true
+    go (inl q) = or-left (eqb (a % 2) 1) (eqb (b % 2) 1) q
+    go (inr q) = or-right (eqb (a % 2) 1) (eqb (b % 2) 1) (eq-eqb (b % 2) 1 (omega (arith, n, eqb-false (a % 2) 1 q)))
+
+module _ (left right : ℕ) where
+  pub covers-end : {D : Clause} → D ≡ [] → left ≡ 0 → covers left right D ≡ eqb right 0
+  unfolding covers
+  covers-end e q = rw (e, q)
+
+  pub covers-beyond : {D : Clause} → D ≡ [] → left ≢ 0 → covers left right D ≡ false
+  unfolding covers
+  covers-beyond e n = rw (e, ne-eqb left 0 n)
+
+  module _ {D R : Clause} {k : ℤ} (e : D ≡ k ∷ R) where
+    pub covers-missed : left % 2 + right % 2 ≡ 0 → covers left right D ≡ false
+    unfolding covers
+    covers-missed q = rw (e, ne-eqb (left % 2) 1 (λ t. omega arith), ne-eqb (right % 2) 1 (λ t. omega arith))
+
+    pub covers-passed : left % 2 + right % 2 ≢ 0 → covers left right D ≡ covers (left / 2) (right / 2) R
+    unfolding covers
+    covers-passed n = rw (e, either-bit left right n)
+
+-- ---- clashes
+
+pub clashes-short : (D : Clause) → length D ≤ 1 → clashes D ≡ false
+unfolding clashes
+clashes-short [] h = refl
+clashes-short (l ∷ []) h = refl
+clashes-short (l ∷ k ∷ C) h = absurd (omega arith)
+
+module _ {D R S : Clause} {l k : ℤ} (e : D ≡ l ∷ R) (f : R ≡ k ∷ S) where
+  pub clashes-found : natAbs l ≡ natAbs k → clashes D ≡ true
+  unfolding clashes
+  clashes-found q = rw (e, f, eq-eqb (natAbs l) (natAbs k) q)
+
+  pub clashes-passed : natAbs l ≢ natAbs k → clashes D ≡ clashes R
+  unfolding clashes
+  clashes-passed n = rw (e, f, ne-eqb (natAbs l) (natAbs k) n)

@@ -8,9 +8,9 @@ use Prim.Native.Nat.{ℕ, zero, suc, _+_, _-_, _<_, _≤_}
 use native.Mathlib.Numerals.{add-one}
 use native.Mathlib.Omega.{arith}
 use borrow.Rule.Slice.PartMut.{putMid}
-use lib.ListN.{length, take, drop, set, length-set, length-append, length-drop, length-take, take-append-drop, drop-of-length-le}
+use lib.ListN.{length, take, drop, set, getD, length-set, length-append, length-drop, length-take, take-append-drop, drop-of-length-le}
 use lib.Seq.{append-snoc, length-take-le, drop-set-lt, take-suc-set, drop-drop, take-all, take-at, drop-at, set-at, drop-cons, getD-at}
-use Rattle.clauses.specs.Writing.{overwrite, overwriteFrom}
+use Rattle.clauses.specs.Writing.{overwrite, overwriteFrom, Written}
 
 module _ {A : Type 0} where
   -- ---- Writing
@@ -25,47 +25,56 @@ module _ {A : Type 0} where
   pub writing-start : (ys xs : List A) → Writing ys xs xs 0 ys
   writing-start ys xs = record { within = omega arith; same = refl; parts = refl; behind = refl }
 
-  module _ (ys xs zs : List A) (count : ℕ) (rest : List A) (w : Writing ys xs zs count rest) where
+  module _ {ys xs zs : List A} {count : ℕ} {rest : List A} (w : Writing ys xs zs count rest) where
     -- there is room for one more element
-    pub writing-room : (y : A) (more : List A) → length ys ≤ length xs → rest ≡ y ∷ more → count < length zs
-    writing-room y more room e =
+    pub writing-room : {y : A} {more : List A} → length ys ≤ length xs → rest ≡ y ∷ more → count < length zs
+    writing-room room e =
         omega (arith, w .within, w .same, ap length (w .parts), length-append (take count zs) rest, length-take-le count zs (w .within), ap length e)
 
-    pub writing-more : (y : A) (more : List A) → length ys ≤ length xs → rest ≡ y ∷ more → Writing ys xs (set zs count y) (count + 1) more
-    writing-more y more room e =
-        let h : count < length zs = writing-room y more room e in
+    pub writing-more : {v y : A} {more : List A} → length ys ≤ length xs → rest ≡ y ∷ more → v ≡ y → Writing ys xs (set zs count v) (count + 1) more
+    writing-more {y = y} {more} room e q =
+        let h : count < length zs = writing-room room e in
         let k : count < count + 1 = omega arith in
-        record {
+        rw q
+        (record {
           within = omega (arith, length-set zs count y);
           same = length-set zs count y ∙ w .same;
           parts = w .parts ∙ rw (e, add-one count, take-suc-set zs count y h) (sym (append-snoc (take count zs) y more));
           behind = rw (drop-set-lt (count + 1) zs count y k, ← drop-drop 1 count zs, ← drop-drop 1 count xs, w .behind);
-        }
+        })
 
     pub writing-front : rest ≡ [] → take count zs ≡ ys
     writing-front e = sym (w .parts ∙ rw (e, append-nil (take count zs)))
 
-    pub writing-done : rest ≡ [] → (count ≡ length ys) × (zs ≡ overwrite ys xs)
+    pub writing-done : rest ≡ [] → Written ys xs zs count
     writing-done e =
         let q : take count zs ≡ ys = writing-front e in
         let n : count ≡ length ys = sym (length-take-le count zs (w .within)) ∙ ap length q in
-        (n, sym (take-append-drop count zs) ∙ rw (q, w .behind, n))
+        record { count = n; left = sym (take-append-drop count zs) ∙ rw (q, w .behind, n) }
 
-  -- ---- overwrite
+  -- ---- Written
 
-  pub overwrite-front : (ys xs : List A) (n : ℕ) → n ≡ length ys → take n (overwrite ys xs) ≡ ys
-  overwrite-front ys xs n e = take-at ys (drop (length ys) xs) n (sym e)
+  module _ {ys xs zs : List A} {n : ℕ} (w : Written ys xs zs n) where
+    pub written-front : take n zs ≡ ys
+    written-front = rw (w .left) (take-at ys (drop (length ys) xs) n (sym (w .count)))
 
-  pub overwrite-length : (ys xs : List A) → length ys ≤ length xs → length (overwrite ys xs) ≡ length xs
-  overwrite-length ys xs h = omega (arith, length-append ys (drop (length ys) xs), length-drop (length ys) xs)
+    pub written-length : n ≡ length (take n zs)
+    written-length = w .count ∙ sym (ap length written-front)
 
-  -- one element more behind what was written
-  pub overwrite-more : (ys xs : List A) (n : ℕ) (y : A) → n ≡ length ys → n < length xs → set (overwrite ys xs) n y ≡ overwrite (ys ++ (y ∷ [])) xs
-  overwrite-more ys xs n y e h =
-      let m : length ys < length xs = rw e at h in
-      let l : length (ys ++ (y ∷ [])) ≡ suc (length ys) = omega (arith, length-append ys (y ∷ [])) in
-      rw (drop-cons xs (length ys) y m, l, set-at ys _ (drop (suc (length ys)) xs) y n (sym e))
-      (sym (append-snoc ys y (drop (suc (length ys)) xs)))
+    pub written-within : n ≤ length zs
+    written-within = omega (arith, w .count, ap length (w .left), length-append ys (drop (length ys) xs))
+
+    -- one element more behind what was written
+    pub written-more : {v y : A} → n < length xs → v ≡ y → Written (ys ++ (y ∷ [])) xs (set zs n v) (n + 1)
+    written-more {y = y} h q =
+        let m : length ys < length xs = rw (w .count) at h in
+        let l : length (ys ++ (y ∷ [])) ≡ suc (length ys) = omega (arith, length-append ys (y ∷ [])) in
+        record {
+          count = omega (arith, w .count);
+          left =
+              rw (q, w .left, drop-cons xs (length ys) y m, l, set-at ys (getD xs (length ys) y) (drop (suc (length ys)) xs) y n (sym (w .count)))
+              (sym (append-snoc ys y (drop (suc (length ys)) xs)));
+        }
 
   -- ---- overwriteFrom
 

@@ -1,10 +1,9 @@
 -- `held::copied` meets its contract: the literals are written, and to be written, over the first of 32 entries.
 use borrow.Author.Needs.{needs}
-use mathlib.Core.Path.{_≡_, refl}
-use Prim.Native.Nat.{_≤_, _-_}
+use Prim.Native.Nat.{_-_}
 use native.Mathlib.Omega.{arith}
 use lib.IntN.{pos}
-use lib.ListN.{length, take, drop, length-take}
+use lib.ListN.{take, drop, length-take}
 use Rattle.dqbf.specs.Limits.{widthLimit}
 use Rattle.dqbf.proofs.Laws.Signed.{kept16}
 use Rattle.clauses.proofs.Laws.Held.{part-front, part-end}
@@ -22,7 +21,7 @@ loop-holds : tie.Need-loop-holds Inv-loop μ-loop
 loop-holds c = writing-start _ _
 
 returns : tie.Need-returns Inv-loop μ-loop
-returns c = writing-front _ _ _ _ _ (c .before .before .loop .inv) (part-end widthLimit (c .before .before .before .args .clause .now) (c .before .before .loop .count) (omega arith))
+returns c = writing-front (c .before .before .loop .inv) (part-end widthLimit (c .before .before .before .args .clause .now) (c .before .before .loop .count) (omega arith))
 
 mul-entries : tie.Need-mul-entries Inv-loop μ-loop
 mul-entries c = search needs
@@ -45,10 +44,11 @@ loop-less c = search needs
 loop-again : tie.Need-loop-again Inv-loop μ-loop
 loop-again c =
     let clause = c .before .before .before .before .args .clause .now in
-    rw (kept16 (c .entries .given)) (writing-more _ _ _ _ _ (c .before .before .before .loop .inv) _ _ (omega (arith, length-take widthLimit clause)) (part-front widthLimit clause (c .before .before .before .loop .count) (pos 0) (omega arith) (omega arith)))
+    let front = part-front widthLimit clause (c .before .before .before .loop .count) (pos 0) (omega arith) (omega arith) in
+    writing-more (c .before .before .before .loop .inv) (omega (arith, length-take widthLimit clause)) front (kept16 (c .entries .given))
 
 returns-2 : tie.Need-returns-2 Inv-loop μ-loop
-returns-2 c = writing-front _ _ _ _ _ (c .before .loop .inv) (part-end widthLimit (c .before .before .args .clause .now) (c .before .loop .count) (omega arith))
+returns-2 c = writing-front (c .before .loop .inv) (part-end widthLimit (c .before .before .args .clause .now) (c .before .loop .count) (omega arith))
 
 pub copied-spec : {M : Type 1} → statement M
 copied-spec =

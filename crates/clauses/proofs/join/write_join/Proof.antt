@@ -1,6 +1,6 @@
 -- `join::write_join` meets its contract: what is written and the join of what is left make the join.
 use borrow.Author.Needs.{needs}
-use Prim.Native.Nat.{_+_, _-_, _≤_, _<_}
+use Prim.Native.Nat.{_+_, _-_, _≤_}
 use native.Mathlib.Omega.{arith}
 use lib.ListN.{length, drop}
 use Rattle.dqbf.specs.Literal.{join}
@@ -13,7 +13,7 @@ use Rattle.clauses.proofs.join.write_join.Statement.{statement}
 use Rattle.clauses.proofs.join.write_join.Tie as tie
 
 abbrev Inv-loop : tie.InvT-loop
-Inv-loop tail₀ x y total i₀ j₀ count₀ tail i j count = (i ≤ length (clauseOf x)) × (j ≤ length (clauseOf y)) × Writing (join (clauseOf x) (clauseOf y)) tail₀ tail count (join (drop i (clauseOf x)) (drop j (clauseOf y)))
+Inv-loop tail₀ x y total i₀ j₀ count₀ tail i j count = (i ≤ length (clauseOf x)) × (j ≤ length (clauseOf y)) × (count ≤ i + j) × Writing (join (clauseOf x) (clauseOf y)) tail₀ tail count (join (drop i (clauseOf x)) (drop j (clauseOf y)))
 
 abbrev μ-loop : tie.MeasureT-loop
 μ-loop tail₀ x y total i₀ j₀ count₀ tail i j count = total - (i + j)
@@ -28,7 +28,7 @@ add-total : tie.Need-add-total Inv-loop μ-loop
 add-total c = search needs
 
 loop-holds : tie.Need-loop-holds Inv-loop μ-loop
-loop-holds c = (search needs, search needs, writing-start _ _)
+loop-holds c = (search needs, search needs, search needs, writing-start _ _)
 
 add-loop : tie.Need-add-loop Inv-loop μ-loop
 add-loop c = search needs
@@ -40,29 +40,27 @@ mul-l : tie.Need-mul-l Inv-loop μ-loop
 mul-l c = search needs
 
 slice-set-from-l : tie.Need-slice-set-from-l Inv-loop μ-loop
-slice-set-from-l c = writing-room _ _ _ _ _ (c .before .before .before .loop .inv .2) _ _ (c .before .before .before .before .before .before .pre) (c .before .next-literal .ensures .first)
+slice-set-from-l c = writing-room (c .before .before .before .loop .inv .3) (c .before .before .before .before .before .before .pre) (c .before .next-literal .ensures .first)
 
 add-count : tie.Need-add-count Inv-loop μ-loop
-add-count c =
-    let room = writing-room _ _ _ _ _ (c .before .before .before .loop .inv .2) _ _ (c .before .before .before .before .before .before .pre) (c .before .next-literal .ensures .first) in
-    search needs
+add-count c = search needs
 
 loop-less : tie.Need-loop-less Inv-loop μ-loop
-loop-less c = omega (arith, c .before .next-literal .ensures)
+loop-less c = search needs
 
 loop-again : tie.Need-loop-again Inv-loop μ-loop
 loop-again c =
     let next = c .before .next-literal .ensures in
-    (next .within .0, next .within .1, rw (kept16 (c .struct-told .given .0 .1)) (writing-more _ _ _ _ _ (c .before .before .before .loop .inv .2) _ _ (c .before .before .before .before .before .before .pre) (next .first)))
+    (next .within .0, next .within .1, omega arith, writing-more (c .before .before .before .loop .inv .3) (c .before .before .before .before .before .before .pre) (next .first) (kept16 (c .struct-told .given .0 .1)))
 
 same-length : tie.Need-same-length Inv-loop μ-loop
-same-length c = c .before .loop .inv .2 .same
+same-length c = c .before .loop .inv .3 .same
 
 returns : tie.Need-returns Inv-loop μ-loop
 returns c =
-    let x = c .before .before .before .before .args .x in
-    let y = c .before .before .before .before .args .y in
-    writing-done _ _ _ _ _ (c .before .loop .inv .2) (join-ends (held-end x (c .before .loop .i) (omega arith)) (held-end y (c .before .loop .j) (omega arith)))
+    let x = held-end (c .before .before .before .before .args .x) (c .before .loop .i) (omega arith) in
+    let y = held-end (c .before .before .before .before .args .y) (c .before .loop .j) (omega arith) in
+    writing-done (c .before .loop .inv .3) (join-ends x y)
 
 pub write-join-spec : {M : Type 1} → statement M
 write-join-spec =
