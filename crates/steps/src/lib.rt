@@ -26,3 +26,6 @@ pub struct Ran {
     pub state: State,
     pub answer: RunAnswer,
 }
+
+pub mod adding;
+pub mod refusal;
