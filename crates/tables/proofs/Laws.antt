@@ -7,3 +7,4 @@ pub mod Universals
 pub mod Valid
 pub mod Spread
 pub mod Adding
+pub mod Entries

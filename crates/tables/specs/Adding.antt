@@ -22,7 +22,7 @@ use Rattle.tables.specs.declared.State.{State}
 
 -- a table with entries stored from a place on
 unfoldable pub stored : {A : Type 0} → List A → ℕ → List A → List A
-stored t place entries = take place t ++ (entries ++ drop (place + length entries) t)
+stored t place entries = take place t ++ (entries ++ drop (length entries) (drop place t))
 
 -- the lowest empty clause, after a clause with a number and a width was added
 unfoldable pub lowestAfter : ℕ → ℕ → ℕ → ℕ

@@ -23,3 +23,6 @@ pub struct State {
     // the lowest empty clause; 0: none
     pub empty: ClauseNumber,
 }
+
+pub mod adding;
+pub mod entries;

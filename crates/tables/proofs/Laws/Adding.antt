@@ -156,6 +156,42 @@ module _ (m : Model) (v : Valid tables m) where
       rw (more-clauses m (Two C D s), ← append-assoc (clauses m) (C ∷ []) (D ∷ []), empty-more (clauses m) C, length-one (clauses m) C, total-one (clauses m) C)
       (by-counts _ _ refl variables refl refl (length-one Cs D) (total-one Cs D) made (empty-more Cs D))
 
+-- ---- room for what comes next, and the steps
+
+module _ (s : State) (left : ℕ) {r : State} (e : r ≡ clauseEnded s left) where
+  pub steps-kept : r .steps .0 ≡ s .steps .0
+  unfolding clauseEnded
+  steps-kept = ap (λ (x : State). x .steps .0) e
+
+  pub room-next : (right : ℕ) → RoomFor s 2 (left + right) 1 → RoomFor r 1 right 0
+  unfolding clauseEnded
+  room-next right f = rw e (record { clauses-fit = omega (arith, f .clauses-fit); literals-fit = omega (arith, f .literals-fit); variables-fit = omega (arith, f .variables-fit) })
+
+  pub room-variable : RoomFor s 1 left 0 → s .variables .0 < variableLimit → RoomFor r 0 0 1
+  unfolding clauseEnded
+  room-variable f h = rw e (record { clauses-fit = omega (arith, f .clauses-fit); literals-fit = omega (arith, f .literals-fit); variables-fit = omega arith })
+
+  pub variables-kept : r .variables .0 ≡ s .variables .0
+  unfolding clauseEnded
+  variables-kept = ap (λ (x : State). x .variables .0) e
+
+-- two clauses, a variable and a step, one after the other
+module _ (s : State) (left right : ℕ) {first second added : State} (e : first ≡ clauseEnded s left) (f : second ≡ clauseEnded first right) (g : added ≡ variableAdded second) where
+  pub fork-steps : added .steps .0 ≡ s .steps .0
+  unfolding variableAdded
+  fork-steps = ap (λ (r : State). r .steps .0) g ∙ steps-kept first right f ∙ steps-kept s left e
+
+  pub fork-state : {r : State} → r ≡ stepCounted added → r ≡ stepCounted (variableAdded (clauseEnded (clauseEnded s left) right))
+  fork-state h = h ∙ ap stepCounted (g ∙ ap variableAdded (f ∙ ap (λ (r : State). clauseEnded r right) e))
+
+  pub fork-ends : (ends : List ℕ) {one two : List ℕ} → one ≡ set ends (s .clauses .0) (s .literals + left) → two ≡ set one (first .clauses .0) (first .literals + right)
+      → two ≡ set (set ends (s .clauses .0) (s .literals + left)) (s .clauses .0 + 1) (s .literals + left + right)
+  unfolding clauseEnded
+  fork-ends ends p q = q ∙ rw (p, e)
+
+  pub fork-entry : (l : List ℕ) (x : ℕ) {l′ : List ℕ} → l′ ≡ set l (second .variables .0) x → l′ ≡ set l (s .variables .0) x
+  fork-entry l x p = p ∙ rw (variables-kept first right f, variables-kept s left e)
+
 -- ---- one more formula clause, as long as there is no derived one
 
 module _ (m : Model) (C : Clause) (none : m .derived ≡ []) where

@@ -3,17 +3,17 @@
 --     over-length, over-size                         how long it is
 --     over-over                                      the last row counts
 --     over-stored, over-set                          entries stored behind a row, or in it
---     stored-none, stored-one, stored-stored         entries stored into a table
+--     stored-none, stored-one, stored-stored, stored-tail      entries stored into a table
 -- Assumes nothing.
 use mathlib.Core.Path.{_≡_, refl, ap, sym, _∙_}
 use mathlib.Core.Bool.{Bool, true}
-use mathlib.Core.List.{List, [], _∷_, _++_, append-assoc}
+use mathlib.Core.List.{List, [], _∷_, _++_, append-assoc, append-nil}
 use Prim.Native.Nat.{ℕ, zero, suc, _+_, _-_, _≤_, _<_}
-use native.Mathlib.Nat.{add-zero}
 use native.Mathlib.Numerals.{add-one}
 use native.Mathlib.Omega.{arith}
-use lib.ListN.{length, take, drop, set, replicate, take-append-drop, length-append, length-drop, length-replicate, length-set, replicate-append-replicate}
-use lib.Seq.{drop-drop, take-at, drop-at, length-take-le, set-append-left, set-split, drop-append-add}
+use borrow.Rule.Slice.PartMut.{putMid}
+use lib.ListN.{length, take, drop, set, replicate, take-append-drop, length-append, length-drop, length-replicate, length-set, replicate-append-replicate, drop-of-length-le}
+use lib.Seq.{drop-drop, take-at, drop-at, length-take-le, set-append-left, set-split, take-all}
 use Rattle.tables.specs.Tables.{stretch}
 use Rattle.tables.specs.Spread.{over}
 use Rattle.tables.specs.Adding.{stored}
@@ -87,8 +87,8 @@ module _ {A : Type 0} (z : A) (size : ℕ) where
         length-append row xs,
         append-assoc row xs (replicate m z ++ drop size t),
         take-at row (replicate (size - length row) z ++ drop size t) (length row) refl,
+        drop-at row (replicate (size - length row) z ++ drop size t) (length row) refl,
         a,
-        drop-append-add row (replicate (length xs + m) z ++ drop size t) (length xs),
         ← replicate-append-replicate (length xs) m z,
         append-assoc (replicate (length xs) z) (replicate m z) (drop size t),
         drop-at (replicate (length xs) z) (replicate m z ++ drop size t) (length xs) (length-replicate (length xs) z),
@@ -104,25 +104,25 @@ module _ {A : Type 0} (z : A) (size : ℕ) where
 module _ {A : Type 0} where
   pub stored-none : (t : List A) (i : ℕ) → stored t i [] ≡ t
   unfolding stored
-  stored-none t i = rw add-zero (take-append-drop i t)
+  stored-none t i = take-append-drop i t
 
   pub stored-one : (t : List A) (i : ℕ) (x : A) → i < length t → set t i x ≡ stored t i (x ∷ [])
   unfolding stored
-  stored-one t i x h = rw add-one (set-split t i x h)
+  stored-one t i x h = rw (drop-drop 1 i t, add-one) (set-split t i x h)
 
   pub stored-stored : (t : List A) (i : ℕ) (xs ys : List A) → i ≤ length t → stored (stored t i xs) (i + length xs) ys ≡ stored t i (xs ++ ys)
   unfolding stored
   stored-stored t i xs ys h =
       let n = i + length xs in
-      let r = drop n t in
+      let r = drop (length xs) (drop i t) in
       let front : length (take i t ++ xs) ≡ n = omega (arith, length-append (take i t) xs, length-take-le i t h) in
-      let count : i + length (xs ++ ys) ≡ n + length ys = omega (arith, length-append xs ys) in
-      rw (
-        ← append-assoc (take i t) xs r,
-        take-at (take i t ++ xs) r n front,
-        ← drop-drop (length ys) n ((take i t ++ xs) ++ r),
-        drop-at (take i t ++ xs) r n front,
-        drop-drop (length ys) n t,
-        count,
-      )
+      rw (← append-assoc (take i t) xs r, take-at (take i t ++ xs) r n front, drop-at (take i t ++ xs) r n front, length-append xs ys, ← drop-drop (length ys) (length xs) (drop i t))
       (simp append-assoc)
+
+  -- what a writer leaves that was lent the tail of a table
+  pub stored-tail : (t : List A) (i : ℕ) (xs : List A) → putMid i (length t - i) t (xs ++ drop (length xs) (take (length t - i) (drop i t))) ≡ stored t i xs
+  unfolding stored
+  stored-tail t i xs =
+      let whole : take (length t - i) (drop i t) ≡ drop i t = take-all (length t - i) (drop i t) (omega (arith, length-drop i t)) in
+      let none : drop (length t - i) (drop i t) ≡ [] = drop-of-length-le (drop i t) {i = length t - i} (omega (arith, length-drop i t)) in
+      rw (whole, none, append-nil)
