@@ -27,5 +27,4 @@ pub struct Ran {
     pub answer: RunAnswer,
 }
 
-pub mod adding;
 pub mod refusal;

@@ -1,0 +1,2 @@
+-- Laws of steps over tables
+pub mod Adding
