@@ -1,2 +1,3 @@
 -- Laws of steps over tables
 pub mod Adding
+pub mod Runs
