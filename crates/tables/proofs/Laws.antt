@@ -8,3 +8,4 @@ pub mod Valid
 pub mod Spread
 pub mod Adding
 pub mod Entries
+pub mod Zeros

@@ -3,7 +3,7 @@
 --     kindRow, setRow       the entries of the variables in use
 --     over                  a row at the front of a table
 --     spread, stateOf       tables and state of a model
---     blank                 the model of a refused formula's tables, which are all 0
+--     blank, zeroState      the model and the state of a refused formula's tables, which are all 0
 -- Assumes nothing.
 use mathlib.Core.List.{List, [], _∷_, _++_}
 use Prim.Native.Nat.{ℕ, zero, suc, _+_, _-_}
@@ -58,3 +58,15 @@ stateOf m = record {
 
 abbrev pub blank : Model
 blank = record { kinds = []; sets = []; formula = []; forks = []; derived = [] }
+
+abbrev pub zeroState : State
+zeroState = record {
+  bound = record { 0 = 0 };
+  variables = record { 0 = 0 };
+  universals = 0;
+  formula = record { 0 = 0 };
+  clauses = record { 0 = 0 };
+  literals = 0;
+  steps = record { 0 = 0 };
+  empty = record { 0 = 0 };
+}

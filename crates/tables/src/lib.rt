@@ -26,3 +26,5 @@ pub struct State {
 
 pub mod adding;
 pub mod entries;
+pub mod limits;
+pub mod zero;

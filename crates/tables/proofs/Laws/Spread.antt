@@ -1,6 +1,7 @@
 -- A valid model spread over tables: it is read back, the tables are well formed, and the last model spread counts. And well-formed tables hold a valid model.
 --     model-back, formed-spread       the model is in the tables, and they are well formed
 --     spread-again, long-spread, frame    for a list of calls: another model, the lengths, the entries past the stated sizes
+--     blank-valid, blank-state            the model of zero tables
 --     model-held, state-held, valid-held  of well-formed tables: they are their model's, the state is its state, it is valid
 -- Assumes nothing.
 use mathlib.Core.Path.{_≡_, refl, ap, sym, _∙_}
@@ -15,12 +16,12 @@ use lib.ListN.{length, take, drop, replicate}
 use lib.Seq.{take-at, drop-at, take-append-seam, drop-append-seam}
 use Rattle.dqbf.specs.Limits.{clauseLimit, literalLimit, variableLimit, tables}
 use Rattle.dqbf.specs.Literal.{Clause, total, same}
-use Rattle.dqbf.specs.Model.{Model, clauses, used, steps, lowestEmpty}
+use Rattle.dqbf.specs.Model.{Model, clauses, used, steps, universalsIn, universalCount, emptyFrom, lowestEmpty}
 use Rattle.dqbf.specs.Valid.{Valid}
 use Rattle.tables.specs.declared.State.{State}
 use Rattle.tables.specs.Tables.{Tables, stretch, cut, kindsIn, setsIn, endsIn, clausesIn, modelIn}
-use Rattle.tables.specs.Spread.{flat, endsFrom, over, spread, stateOf, kindRow, setRow}
-use Rattle.tables.specs.WellFormed.{allOf, isZero, isZeroLiteral, endsRise, long, wellFormed, valid}
+use Rattle.tables.specs.Spread.{flat, endsFrom, over, spread, stateOf, kindRow, setRow, blank, zeroState}
+use Rattle.tables.specs.WellFormed.{every, allOf, allVariables, isZero, isZeroLiteral, endsRise, long, withinLimits, boundInUse, clausesAddUp, countsFit, clausesFit, lowest, universalBits, forksAbove, variablesFit, wellFormed, valid}
 use Rattle.tables.proofs.Laws.Tests.{every-at, every-from, all-replicate}
 use Rattle.tables.proofs.Laws.Cuts.{flat-length, ends-length, ends-rise, cut-flat}
 use Rattle.tables.proofs.Laws.Rows.{over-length, over-take, over-drop, over-over, over-rest}
@@ -174,3 +175,14 @@ module _ (m : Model) (v : Valid tables m) (t : Tables) where
     sets = over-drop 0 variableLimit (setRow m) (t .sets) sets-fit;
     kinds = over-drop 0 variableLimit (kindRow m) (t .kinds) kinds-fit;
   }
+
+-- ---- the blank model
+
+pub blank-valid : Valid tables blank
+blank-valid = valid-is blank blank-test
+  where
+    blank-test : valid blank ≡ true
+    blank-test = unfold valid every allOf allVariables countsFit withinLimits boundInUse clausesAddUp stateOf clauses used steps lowestEmpty emptyFrom total universalCount universalsIn clausesFit kindRow setRow variablesFit universalBits lowest forksAbove in refl
+
+pub blank-state : stateOf blank ≡ zeroState
+blank-state = unfold stateOf clauses used steps lowestEmpty emptyFrom total universalCount universalsIn in refl

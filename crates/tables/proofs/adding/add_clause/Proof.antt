@@ -1,7 +1,7 @@
 -- `tables::adding::add_clause` meets its contract. Assumes nothing.
-use borrow.Author.Needs.{needs}
 use mathlib.Core.Path.{_∙_, ap}
 use native.Mathlib.Omega.{arith}
+use borrow.Author.Needs.{needs}
 use Rattle.tables.specs.Adding.{stepCounted}
 use Rattle.tables.proofs.Laws.Adding.{steps-kept}
 use Rattle.tables.proofs.adding.add_clause.Statement.{statement}

@@ -1,6 +1,6 @@
 -- `tables::adding::add_variable` meets its contract. Assumes nothing.
-use borrow.Author.Needs.{needs}
 use mathlib.Core.Path.{refl}
+use borrow.Author.Needs.{needs}
 use Rattle.tables.specs.Adding.{variableAdded}
 use Rattle.tables.proofs.adding.add_variable.Statement.{statement}
 use Rattle.tables.proofs.adding.add_variable.Tie as tie

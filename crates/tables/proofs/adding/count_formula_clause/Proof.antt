@@ -1,6 +1,6 @@
 -- `tables::adding::count_formula_clause` meets its contract. Assumes nothing.
-use borrow.Author.Needs.{needs}
 use mathlib.Core.Path.{refl}
+use borrow.Author.Needs.{needs}
 use Rattle.tables.specs.Adding.{formulaCounted}
 use Rattle.tables.proofs.adding.count_formula_clause.Statement.{statement}
 use Rattle.tables.proofs.adding.count_formula_clause.Tie as tie

@@ -1,6 +1,6 @@
 -- `tables::adding::count_step` meets its contract. Assumes nothing.
-use borrow.Author.Needs.{needs}
 use mathlib.Core.Path.{refl}
+use borrow.Author.Needs.{needs}
 use Rattle.tables.specs.Adding.{stepCounted}
 use Rattle.tables.proofs.adding.count_step.Statement.{statement}
 use Rattle.tables.proofs.adding.count_step.Tie as tie
