@@ -1,6 +1,6 @@
+pub mod Clauses
 pub mod Held
 pub mod Join
 pub mod Literals
-pub mod Parts
 pub mod Sets
 pub mod Writing

@@ -3,17 +3,9 @@
 use mathlib.Core.Path.{_≡_}
 use mathlib.Core.List.{List, _++_}
 use Prim.Native.Nat.{ℕ}
-use lib.ListN.{length, take, drop}
+use lib.ListN.{length, drop}
 
--- xs with ys over its front
-abbrev pub overwrite : {A : Type 0} → List A → List A → List A
-overwrite ys xs = ys ++ drop (length ys) xs
-
--- xs with ys over its entries from place n on
-abbrev pub overwriteFrom : {A : Type 0} → ℕ → List A → List A → List A
-overwriteFrom n ys xs = take n xs ++ overwrite ys (drop n xs)
-
--- A writer of ys found xs and left zs, and answered n.
+-- A writer of ys over the front of xs left zs, and answered n.
 pub record Written {A : Type 0} (ys xs zs : List A) (n : ℕ) : Type 0 where
   pub count : n ≡ length ys
-  pub left : zs ≡ overwrite ys xs
+  pub left : zs ≡ ys ++ drop (length ys) xs

@@ -52,16 +52,14 @@ fn next_literal(x: Held, y: Held, i: usize, j: usize) -> Next
         };
     }
     let k = y.literals[j];
-    let p = rank(l);
-    let q = rank(k);
-    if p == q {
+    if l == k {
         return Next {
             literal: l,
             i: i + 1,
             j: j + 1,
         };
     }
-    if p < q {
+    if rank(l) < rank(k) {
         return Next {
             literal: l,
             i: i + 1,

@@ -1,7 +1,9 @@
 -- Literals as the machine compares them: by their 16 bits, and by rank (dqbf's specs/Literal.antt).
+-- An entry that was read is e, with its range; a literal l that is passed is `toZ w16 (ofZ w16 l)` in a loop.
 use mathlib.Core.Path.{_≡_, ap, sym, _∙_}
+use mathlib.Core.Logic.{_≢_}
 use mathlib.Core.Bool.{true, false}
-use Prim.Native.Nat.{ℕ, suc, _+_, _*_, _<_, _^_}
+use Prim.Native.Nat.{ℕ, _+_, _*_, _<_, _^_}
 use native.Mathlib.Omega.{arith}
 use borrow.Author.Tests.{ltb-true}
 use lib.IntN.{ℤ, pos, negsuc, natAbs}
@@ -12,14 +14,15 @@ use mir.Facts.{toZ-ofZ}
 use Rattle.dqbf.specs.Literal.{rank}
 use Rattle.dqbf.proofs.Laws.Signed.{kept16}
 
--- entries with the same bits are the same literal
-pub bits-same : {l k : ℤ} → mag l < 2 ^ 15 → SFits w16 k → ofZ w16 l ≡ ofZ w16 k → l ≡ k
-bits-same f g e = sym (kept16 f) ∙ ap (toZ w16) e ∙ toZ-ofZ g
+-- ---- bits
+
+pub bits-same : {e : ℤ} {b : ℕ} → mag e < 2 ^ 15 → ofZ w16 e ≡ b → e ≡ toZ w16 b
+bits-same f q = sym (kept16 f) ∙ ap (toZ w16) q
+
+pub bits-differ : {e l : ℤ} → SFits w16 l → (ofZ w16 e ≡ ofZ w16 l → ⊥) → e ≢ toZ w16 (ofZ w16 l)
+bits-differ f n q = n (ap (ofZ w16) (q ∙ toZ-ofZ f))
 
 -- ---- rank
-
-pub rank-kept : (l : ℤ) → mag l < 2 ^ 15 → rank (toZ w16 (ofZ w16 l)) ≡ rank l
-rank-kept l f = ap rank (kept16 {z = l} f)
 
 pub rank-negative : (l : ℤ) → ltZ l (pos 0) ≡ true → rank l ≡ 2 * natAbs l + 1
 unfolding rank
@@ -30,10 +33,3 @@ pub rank-positive : (l : ℤ) → ltZ l (pos 0) ≡ false → rank l ≡ 2 * nat
 unfolding rank
 rank-positive (pos x) t = omega arith
 rank-positive (negsuc k) t = absurd (let z : _≡_ {A = ℕ} 0 1 = cc in omega arith)
-
-pub rank-same : (l k : ℤ) → rank l ≡ rank k → l ≡ k
-unfolding rank
-rank-same (pos x) (pos y) h = ap pos (omega arith)
-rank-same (pos x) (negsuc y) h = absurd (omega arith)
-rank-same (negsuc x) (pos y) h = absurd (omega arith)
-rank-same (negsuc x) (negsuc y) h = ap negsuc (omega arith)

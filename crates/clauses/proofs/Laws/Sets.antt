@@ -1,12 +1,12 @@
 -- Sets of variables and clauses over a list of sets (specs/Sets.antt), a literal at a time, and over a model.
 -- Offers: `set-none`, `set-past`, `set-at` for a variable; for a part and for `reads` what each literal in front makes of them; `model-set`, `model-clause-set`, `model-reads`: over a model's sets they are the model's own.
-use mathlib.Core.Path.{_≡_, refl, ap, ap₂, sym, _∙_}
+use mathlib.Core.Path.{_≡_, refl, ap, sym, _∙_}
 use mathlib.Core.Logic.{_≢_}
-use mathlib.Core.Bool.{true, false, _||_, or-assoc}
+use mathlib.Core.Bool.{true, false, or-assoc}
 use mathlib.Core.List.{List, [], _∷_, _++_}
 use Prim.Native.Nat.{ℕ, zero, suc, _-_, _<_, _≤_, _^_}
 use native.Mathlib.Omega.{arith}
-use lib.Bits.{or-zero-l, or-zero-r}
+use lib.Bits.{or-zero-r}
 use lib.IntN.{ℤ, natAbs}
 use lib.ListN.{length, getD, List·getD-eq-default}
 use lib.Signed.{mag}
@@ -43,35 +43,33 @@ module _ (sets : List Set) where
   pub set-past : (x : ℕ) → x ≢ 0 → length sets ≤ x - 1 → setIn sets x ≡ emptySet
   set-past x n h = set-at x n ∙ List·getD-eq-default sets emptySet h
 
-  -- the set of an entry that was read
-  pub set-kept : (l : ℤ) → mag l < 2 ^ 15 → setIn sets (natAbs (toZ w16 (ofZ w16 l))) ≡ setIn sets (natAbs l)
-  set-kept l f = ap (setIn sets) (var-kept l f)
+  -- ---- of what a loop has before it, D: its literal in front is k, an entry whose set S was looked up
 
-  -- ---- clauseSetIn, of what a loop has before it: `found` is the union so far
+  module _ {D R : Clause} {k : ℤ} {S : Set} (e : D ≡ k ∷ R) (f : mag k < 2 ^ 15) (q : S ≡ setIn sets (natAbs (toZ w16 (ofZ w16 k)))) where
+    looked-up : setIn sets (natAbs k) ≡ S
+    looked-up = sym (q ∙ ap (setIn sets) (var-kept k f))
 
-  pub set-end : (found : Set) {D : Clause} → D ≡ [] → union found (clauseSetIn sets D) ≡ found
-  unfolding clauseSetIn
-  set-end found e = rw e (or-zero-r found)
+    -- the union so far is r, and with S it is t
+    pub set-more : (r : Set) {t : Set} → t ≡ union r S → union r (clauseSetIn sets D) ≡ union t (clauseSetIn sets R)
+    unfolding clauseSetIn
+    set-more r u = rw (e, looked-up, u) (sym (union-assoc r S (clauseSetIn sets R)))
 
-  pub set-more : (found : Set) {D R : Clause} {k : ℤ} → D ≡ k ∷ R → union found (clauseSetIn sets D) ≡ union (union found (setIn sets (natAbs k))) (clauseSetIn sets R)
-  unfolding clauseSetIn
-  set-more found {R = R} {k} e = rw e (sym (union-assoc found (setIn sets (natAbs k)) (clauseSetIn sets R)))
-
-  -- ---- readsIn
-
-  module _ (s : Set) where
-    pub reads-end : {D : Clause} → D ≡ [] → readsIn sets s D ≡ false
-    unfolding readsIn
-    reads-end e = rw e
-
-    module _ {D R : Clause} {k : ℤ} (e : D ≡ k ∷ R) where
-      pub reads-found : inside s (setIn sets (natAbs k)) ≡ true → readsIn sets s D ≡ true
+    module _ (s : Set) where
+      pub reads-found : inside s S ≡ true → readsIn sets s D ≡ true
       unfolding readsIn
-      reads-found t = rw (e, t)
+      reads-found t = rw (e, looked-up, t)
 
-      pub reads-passed : inside s (setIn sets (natAbs k)) ≡ false → readsIn sets s D ≡ readsIn sets s R
+      pub reads-passed : inside s S ≡ false → readsIn sets s D ≡ readsIn sets s R
       unfolding readsIn
-      reads-passed t = rw (e, t)
+      reads-passed t = rw (e, looked-up, t)
+
+  pub set-end : (r : Set) {D : Clause} → D ≡ [] → union r (clauseSetIn sets D) ≡ r
+  unfolding clauseSetIn
+  set-end r e = rw e (or-zero-r r)
+
+  pub reads-end : (s : Set) {D : Clause} → D ≡ [] → readsIn sets s D ≡ false
+  unfolding readsIn
+  reads-end s e = rw e
 
 -- ---- over the sets of a model
 

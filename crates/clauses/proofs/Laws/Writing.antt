@@ -1,16 +1,17 @@
--- Writing a list over the front of another, an element at a time, and a tail that is lent for it (specs/Writing.antt).
--- Any element type. Offers: the state of a writer, `Writing`, with what one more element and the end make of it
--- (`writing-start`, `writing-room`, `writing-more`, `writing-done`); laws of `overwrite` and `overwriteFrom`;
--- `tail-written`, what a table is after its tail came back from a writer.
+-- Writing a list over the front of another (specs/Writing.antt), an element at a time, and over the tail of a table that is lent for it. Any element type.
+-- Offers: `Writing`, where a writer stands, with `writing-start`, `writing-room`, `writing-more`, `writing-front`, `writing-done`;
+-- of what it left, `written-front`, `written-length`, `written-within`, `written-more`;
+-- for a table whose tail from n on is lent, `tail-room`, what a writer into it requires, and `tail-stored`, the table after it.
 use mathlib.Core.Path.{_≡_, refl, ap, sym, _∙_}
-use mathlib.Core.List.{List, [], _∷_, _++_, append-assoc, append-nil}
-use Prim.Native.Nat.{ℕ, zero, suc, _+_, _-_, _<_, _≤_}
+use mathlib.Core.List.{List, [], _∷_, _++_, append-nil}
+use Prim.Native.Nat.{ℕ, _+_, _-_, _<_, _≤_}
 use native.Mathlib.Numerals.{add-one}
 use native.Mathlib.Omega.{arith}
 use borrow.Rule.Slice.PartMut.{putMid}
-use lib.ListN.{length, take, drop, set, getD, length-set, length-append, length-drop, length-take, take-append-drop, drop-of-length-le}
-use lib.Seq.{append-snoc, length-take-le, drop-set-lt, take-suc-set, drop-drop, take-all, take-at, drop-at, set-at, drop-cons, getD-at}
-use Rattle.clauses.specs.Writing.{overwrite, overwriteFrom, Written}
+use lib.ListN.{length, take, drop, set, length-set, length-append, length-drop, take-append-drop}
+use lib.Seq.{append-snoc, length-take-le, drop-set-lt, take-suc-set, drop-drop, take-at}
+use Rattle.dqbf.proofs.Laws.Parts.{front-set, tail-lent, tail-written}
+use Rattle.clauses.specs.Writing.{Written}
 
 module _ {A : Type 0} where
   -- ---- Writing
@@ -67,19 +68,14 @@ module _ {A : Type 0} where
     -- one element more behind what was written
     pub written-more : {v y : A} → n < length xs → v ≡ y → Written (ys ++ (y ∷ [])) xs (set zs n v) (n + 1)
     written-more {y = y} h q =
-        let m : length ys < length xs = rw (w .count) at h in
-        let l : length (ys ++ (y ∷ [])) ≡ suc (length ys) = omega (arith, length-append ys (y ∷ [])) in
-        record {
-          count = omega (arith, w .count);
-          left =
-              rw (q, w .left, drop-cons xs (length ys) y m, l, set-at ys (getD xs (length ys) y) (drop (suc (length ys)) xs) y n (sym (w .count)))
-              (sym (append-snoc ys y (drop (suc (length ys)) xs)));
-        }
+        record { count = omega (arith, w .count, length-append ys (y ∷ [])); left = rw q (front-set zs xs ys n y (w .count) h (w .left)) }
 
-  -- ---- overwriteFrom
+  -- ---- the tail of a table, lent from n on
 
-  -- the table after its tail, lent from n on, came back with ys over its front
-  pub tail-written : (n : ℕ) (ys xs zs : List A) → zs ≡ overwrite ys (take (length xs - n) (drop n xs)) → putMid n (length xs - n) xs zs ≡ overwriteFrom n ys xs
-  tail-written n ys xs zs e =
-      let h : length (drop n xs) ≤ length xs - n = omega (arith, length-drop n xs) in
-      rw (drop-of-length-le (drop n xs) h, append-nil zs, e, take-all (length xs - n) (drop n xs) h)
+  module _ (xs : List A) (n : ℕ) where
+    pub tail-room : {k : ℕ} → n + k ≤ length xs → k ≤ length (take (length xs - n) (drop n xs))
+    tail-room h = omega (arith, ap length (tail-lent xs n), length-drop n xs)
+
+    pub tail-stored : {ys zs : List A} {k : ℕ} → Written ys (take (length xs - n) (drop n xs)) zs k
+        → putMid n (length xs - n) xs zs ≡ take n xs ++ (ys ++ drop (length ys) (drop n xs))
+    tail-stored {ys} {zs} w = tail-written xs zs ys n (length ys) (w .left)

@@ -1,7 +1,7 @@
 -- `held::held_clause` meets its contract: a stretch of at most 32 literals is copied whole.
 use borrow.Author.Needs.{needs}
 use borrow.Author.Needs.{needs}
-use mathlib.Core.Path.{_≡_, _∙_}
+use mathlib.Core.Path.{_∙_}
 use Prim.Native.Nat.{_-_}
 use native.Mathlib.Omega.{arith}
 use lib.ListN.{take, drop, length-take}

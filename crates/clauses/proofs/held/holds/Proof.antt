@@ -1,17 +1,17 @@
--- `held::holds` meets its contract: a literal is in the clause if it is among those that the loop has yet to pass.
+-- `held::holds` meets its contract: a literal stands in the clause if it is among those that the loop has yet to pass.
 use borrow.Author.Needs.{needs}
-use mathlib.Core.Path.{_≡_, ap, sym, _∙_}
+use mathlib.Core.Path.{_≡_, sym, _∙_}
 use Prim.Native.Nat.{_≤_, _-_}
 use native.Mathlib.Omega.{arith}
 use lib.ListN.{drop}
 use mir.Syntax.{w16}
-use mir.Val.{toZ, ofZ}
+use mir.Val.{toZ}
 use mir.Facts.{toZ-ofZ}
 use Rattle.dqbf.specs.Literal.{holds}
 use Rattle.clauses.specs.Held.{clauseOf}
 use Rattle.clauses.proofs.Laws.Held.{held-front, held-end}
-use Rattle.clauses.proofs.Laws.Literals.{bits-same}
-use Rattle.clauses.proofs.Laws.Parts.{holds-found, holds-passed, holds-end}
+use Rattle.clauses.proofs.Laws.Literals.{bits-same, bits-differ}
+use Rattle.clauses.proofs.Laws.Clauses.{holds-found, holds-passed, holds-end}
 use Rattle.clauses.proofs.held.holds.Statement.{statement}
 use Rattle.clauses.proofs.held.holds.Tie as tie
 
@@ -35,9 +35,8 @@ element-copy-out-l c = search needs
 
 returns : tie.Need-returns Inv-loop μ-loop
 returns c =
-    let s = c .before .before .before .before .before in
-    let front = held-front (s .args .t1) (c .before .before .before .loop .i) (omega arith) in
-    sym (rw (toZ-ofZ (s .fits .literal)) at (c .before .before .before .loop .inv .1) ∙ holds-found (s .args .literal) front (bits-same (c .before .l .given) (s .fits .literal) (c .if1 .taken)))
+    let front = held-front (c .before .before .before .before .before .args .t1) (c .before .before .before .loop .i) (omega arith) in
+    rw (toZ-ofZ (c .before .before .before .before .before .fits .literal)) at (sym (c .before .before .before .loop .inv .1 ∙ holds-found _ front (bits-same (c .before .l .given) (c .if1 .taken))))
 
 add-i : tie.Need-add-i Inv-loop μ-loop
 add-i c = search needs
@@ -47,14 +46,11 @@ loop-less c = search needs
 
 loop-again : tie.Need-loop-again Inv-loop μ-loop
 loop-again c =
-    let s = c .before .before .before .before .before in
-    let front = held-front (s .args .t1) (c .before .before .before .loop .i) (omega arith) in
-    (search needs, c .before .before .before .loop .inv .1 ∙ holds-passed _ front (λ e. c .if1 .left (ap (ofZ w16) (e ∙ toZ-ofZ (s .fits .literal)))))
+    let front = held-front (c .before .before .before .before .before .args .t1) (c .before .before .before .loop .i) (omega arith) in
+    (search needs, c .before .before .before .loop .inv .1 ∙ holds-passed _ front (bits-differ (c .before .before .before .before .before .fits .literal) (c .if1 .left)))
 
 returns-2 : tie.Need-returns-2 Inv-loop μ-loop
-returns-2 c =
-    let s = c .before .before .before in
-    sym (rw (toZ-ofZ (s .fits .literal)) at (c .before .loop .inv .1) ∙ holds-end (s .args .literal) (held-end (s .args .t1) (c .before .loop .i) (omega arith)))
+returns-2 c = rw (toZ-ofZ (c .before .before .before .fits .literal)) at (sym (c .before .loop .inv .1 ∙ holds-end _ (held-end (c .before .before .before .args .t1) (c .before .loop .i) (omega arith))))
 
 pub holds-spec : {M : Type 1} → statement M
 holds-spec =

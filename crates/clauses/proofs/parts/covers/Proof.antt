@@ -8,7 +8,7 @@ use lib.ListN.{length, drop}
 use Rattle.dqbf.specs.Literal.{Clause, covers}
 use Rattle.clauses.specs.Held.{clauseOf}
 use Rattle.clauses.proofs.Laws.Held.{list-front, held-front, held-end}
-use Rattle.clauses.proofs.Laws.Parts.{covers-missed, covers-passed, covers-end, covers-beyond}
+use Rattle.clauses.proofs.Laws.Clauses.{covers-missed, covers-passed, covers-end, covers-beyond}
 use Rattle.clauses.proofs.parts.covers.Statement.{statement}
 use Rattle.clauses.proofs.parts.covers.Tie as tie
 

@@ -1,6 +1,6 @@
 -- `parts::part_length` meets its contract. What a mask picks is as long of every clause of n literals: the loop reads no literal.
 use borrow.Author.Needs.{needs}
-use mathlib.Core.Path.{_≡_, refl, ap, _∙_}
+use mathlib.Core.Path.{_≡_, ap, _∙_}
 use Prim.Native.Nat.{_+_, _-_, _≤_}
 use native.Mathlib.Omega.{arith}
 use lib.IntN.{pos}
@@ -8,7 +8,7 @@ use lib.ListN.{length, drop}
 use Rattle.dqbf.specs.Literal.{Clause, pick}
 use Rattle.clauses.specs.Held.{clauseOf}
 use Rattle.clauses.proofs.Laws.Held.{list-front, held-end}
-use Rattle.clauses.proofs.Laws.Parts.{pick-taken, pick-passed, pick-end}
+use Rattle.clauses.proofs.Laws.Clauses.{pick-taken, pick-passed, pick-end}
 use Rattle.clauses.proofs.parts.part_length.Statement.{statement}
 use Rattle.clauses.proofs.parts.part_length.Tie as tie
 

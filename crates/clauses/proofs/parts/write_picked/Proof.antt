@@ -7,7 +7,7 @@ use Rattle.dqbf.specs.Literal.{pick}
 use Rattle.dqbf.proofs.Laws.Signed.{kept16}
 use Rattle.clauses.specs.Held.{clauseOf}
 use Rattle.clauses.proofs.Laws.Held.{held-front, held-end}
-use Rattle.clauses.proofs.Laws.Parts.{pick-taken, pick-passed, pick-end}
+use Rattle.clauses.proofs.Laws.Clauses.{pick-taken, pick-passed, pick-end}
 use Rattle.clauses.proofs.Laws.Writing.{Writing, writing-start, writing-room, writing-more, writing-done}
 use Rattle.clauses.proofs.parts.write_picked.Statement.{statement}
 use Rattle.clauses.proofs.parts.write_picked.Tie as tie

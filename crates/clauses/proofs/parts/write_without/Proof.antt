@@ -1,19 +1,17 @@
 -- `parts::write_without` meets its contract: what is written and what is left without the literal make the clause without it.
 use borrow.Author.Needs.{needs}
-use mathlib.Core.Path.{_≡_, ap, sym, _∙_}
 use Prim.Native.Nat.{_-_, _≤_}
 use native.Mathlib.Omega.{arith}
-use lib.IntN.{pos}
 use lib.ListN.{drop}
 use mir.Syntax.{w16}
-use mir.Val.{toZ, ofZ}
+use mir.Val.{toZ}
 use mir.Facts.{toZ-ofZ}
 use Rattle.dqbf.specs.Literal.{without}
 use Rattle.dqbf.proofs.Laws.Signed.{kept16}
 use Rattle.clauses.specs.Held.{clauseOf}
 use Rattle.clauses.proofs.Laws.Held.{held-front, held-end}
-use Rattle.clauses.proofs.Laws.Literals.{bits-same}
-use Rattle.clauses.proofs.Laws.Parts.{without-kept, without-dropped, without-end}
+use Rattle.clauses.proofs.Laws.Literals.{bits-same, bits-differ}
+use Rattle.clauses.proofs.Laws.Clauses.{without-kept, without-dropped, without-end}
 use Rattle.clauses.proofs.Laws.Writing.{Writing, writing-start, writing-room, writing-more, writing-done}
 use Rattle.clauses.proofs.parts.write_without.Statement.{statement}
 use Rattle.clauses.proofs.parts.write_without.Tie as tie
@@ -44,10 +42,8 @@ mul-l-2 c = search needs
 
 slice-set-from-l : tie.Need-slice-set-from-l Inv-loop μ-loop
 slice-set-from-l c =
-    let s = c .before .before .before .before .before in
-    let front = held-front (s .args .t2) (c .before .before .before .loop .i) (omega arith) in
-    let kept = without-kept _ front (λ e. c .if1 .taken (ap (ofZ w16) (e ∙ toZ-ofZ (s .fits .literal)))) in
-    writing-room (c .before .before .before .loop .inv .2) (rw (toZ-ofZ (s .fits .literal)) (c .before .before .before .before .before .pre)) kept
+    let kept = without-kept _ (held-front (c .before .before .before .before .before .args .t2) (c .before .before .before .loop .i) (omega arith)) (bits-differ (c .before .before .before .before .before .fits .literal) (c .if1 .taken)) in
+    writing-room (c .before .before .before .loop .inv .2) (rw (toZ-ofZ (c .before .before .before .before .before .fits .literal)) (c .before .before .before .before .before .pre)) kept
 
 add-count : tie.Need-add-count Inv-loop μ-loop
 add-count c = search needs
@@ -57,28 +53,22 @@ loop-less c = search needs
 
 loop-again : tie.Need-loop-again Inv-loop μ-loop
 loop-again c =
-    let s = c .before .before .before .before .before in
-    let front = held-front (s .args .t2) (c .before .before .before .loop .i) (omega arith) in
-    let kept = without-kept _ front (λ e. c .if1 .taken (ap (ofZ w16) (e ∙ toZ-ofZ (s .fits .literal)))) in
-    (search needs, search needs, writing-more (c .before .before .before .loop .inv .2) (rw (toZ-ofZ (s .fits .literal)) (c .before .before .before .before .before .pre)) kept (kept16 (c .before .l .given)))
+    let kept = without-kept _ (held-front (c .before .before .before .before .before .args .t2) (c .before .before .before .loop .i) (omega arith)) (bits-differ (c .before .before .before .before .before .fits .literal) (c .if1 .taken)) in
+    (search needs, search needs, writing-more (c .before .before .before .loop .inv .2) (rw (toZ-ofZ (c .before .before .before .before .before .fits .literal)) (c .before .before .before .before .before .pre)) kept (kept16 (c .before .l .given)))
 
 loop-less-2 : tie.Need-loop-less-2 Inv-loop μ-loop
 loop-less-2 c = search needs
 
 loop-again-2 : tie.Need-loop-again-2 Inv-loop μ-loop
 loop-again-2 c =
-    let s = c .before .before .before .before .before in
-    let front = held-front (s .args .t2) (c .before .before .before .loop .i) (omega arith) in
-    let same = bits-same (c .before .l .given) (s .fits .literal) (c .if1 .left) in
-    (search needs, search needs, rw (without-dropped _ front (same ∙ sym (toZ-ofZ (s .fits .literal)))) at (c .before .before .before .loop .inv .2))
+    let dropped = without-dropped _ (held-front (c .before .before .before .before .before .args .t2) (c .before .before .before .loop .i) (omega arith)) (bits-same (c .before .l .given) (c .if1 .left)) in
+    (search needs, search needs, rw dropped at (c .before .before .before .loop .inv .2))
 
 same-length : tie.Need-same-length Inv-loop μ-loop
 same-length c = c .before .loop .inv .2 .same
 
 returns : tie.Need-returns Inv-loop μ-loop
-returns c =
-    let s = c .before .before .before in
-    rw (toZ-ofZ (s .fits .literal)) at (writing-done (c .before .loop .inv .2) (without-end _ (held-end (s .args .t2) (c .before .loop .i) (omega arith))))
+returns c = rw (toZ-ofZ (c .before .before .before .fits .literal)) at (writing-done (c .before .loop .inv .2) (without-end _ (held-end (c .before .before .before .args .t2) (c .before .loop .i) (omega arith))))
 
 pub write-without-spec : {M : Type 1} → statement M
 write-without-spec =

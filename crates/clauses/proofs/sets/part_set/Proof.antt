@@ -1,6 +1,6 @@
 -- `sets::part_set` meets its contract: the union so far and the set of what the rest of the mask picks make the set of the part.
 use borrow.Author.Needs.{needs}
-use mathlib.Core.Path.{_≡_, ap, sym, _∙_}
+use mathlib.Core.Path.{_≡_, sym, _∙_}
 use Prim.Native.Nat.{_-_, _≤_}
 use native.Mathlib.Omega.{arith}
 use lib.Bits.{or-zero-l}
@@ -10,8 +10,8 @@ use Rattle.dqbf.specs.Set.{union}
 use Rattle.clauses.specs.Held.{clauseOf}
 use Rattle.clauses.specs.Sets.{clauseSetIn}
 use Rattle.clauses.proofs.Laws.Held.{held-front, held-end}
-use Rattle.clauses.proofs.Laws.Parts.{pick-taken, pick-passed, pick-end}
-use Rattle.clauses.proofs.Laws.Sets.{set-kept, set-more, set-end}
+use Rattle.clauses.proofs.Laws.Clauses.{pick-taken, pick-passed, pick-end}
+use Rattle.clauses.proofs.Laws.Sets.{set-more, set-end}
 use Rattle.clauses.proofs.sets.part_set.Statement.{statement}
 use Rattle.clauses.proofs.sets.part_set.Tie as tie
 
@@ -47,17 +47,16 @@ loop-less c = search needs
 
 loop-again : tie.Need-loop-again Inv-loop μ-loop
 loop-again c =
-    let front = held-front (c .before .before .before .before .before .before .before .before .args .t1) (c .before .before .before .before .before .loop .i) (omega arith) in
-    let grown = rw (c .before .set-of .ensures, set-kept _ _ (c .before .before .before .l .given)) at (c .union .ensures) in
-    (search needs, rw grown (c .before .before .before .before .before .loop .inv .1 ∙ set-more (c .before .before .before .before .before .before .before .before .args .sets .now) (c .before .before .before .before .before .loop .set) (pick-taken _ front (c .before .before .if1 .taken))))
+    let taken = pick-taken (c .before .before .before .before .before .loop .left) (held-front (c .before .before .before .before .before .before .before .before .args .t1) (c .before .before .before .before .before .loop .i) (omega arith)) (c .before .before .if1 .taken) in
+    (search needs, c .before .before .before .before .before .loop .inv .1 ∙ set-more _ taken (c .before .before .before .l .given) (c .before .set-of .ensures) (c .before .before .before .before .before .loop .set) (c .union .ensures))
 
 loop-less-2 : tie.Need-loop-less-2 Inv-loop μ-loop
 loop-less-2 c = search needs
 
 loop-again-2 : tie.Need-loop-again-2 Inv-loop μ-loop
 loop-again-2 c =
-    let front = held-front (c .before .before .before .before .before .before .args .t1) (c .before .before .before .loop .i) (omega arith) in
-    (search needs, rw (pick-passed _ front (c .if1 .left)) at (c .before .before .before .loop .inv .1))
+    let passed = pick-passed (c .before .before .before .loop .left) (held-front (c .before .before .before .before .before .before .args .t1) (c .before .before .before .loop .i) (omega arith)) (c .if1 .left) in
+    (search needs, rw passed at (c .before .before .before .loop .inv .1))
 
 returns : tie.Need-returns Inv-loop μ-loop
 returns c = sym (c .before .loop .inv .1 ∙ set-end _ _ (pick-end _ (held-end (c .before .before .before .before .args .t1) (c .before .loop .i) (omega arith))))

@@ -1,14 +1,13 @@
 -- `sets::reads` meets its contract: a literal whose set contains the set is among those that the loop has yet to pass.
 use borrow.Author.Needs.{needs}
-use mathlib.Core.Path.{_≡_, ap, sym, _∙_}
+use mathlib.Core.Path.{_≡_, sym, _∙_}
 use Prim.Native.Nat.{_-_, _≤_}
 use native.Mathlib.Omega.{arith}
 use lib.ListN.{drop}
-use Rattle.dqbf.specs.Set.{inside}
 use Rattle.clauses.specs.Held.{clauseOf}
 use Rattle.clauses.specs.Sets.{readsIn}
 use Rattle.clauses.proofs.Laws.Held.{held-front, held-end}
-use Rattle.clauses.proofs.Laws.Sets.{set-kept, reads-found, reads-passed, reads-end}
+use Rattle.clauses.proofs.Laws.Sets.{reads-found, reads-passed, reads-end}
 use Rattle.clauses.proofs.sets.reads.Statement.{statement}
 use Rattle.clauses.proofs.sets.reads.Tie as tie
 
@@ -39,8 +38,7 @@ inside-requires c κs = search needs
 returns : tie.Need-returns Inv-loop μ-loop
 returns c =
     let front = held-front (c .before .before .before .before .before .before .before .before .args .t1) (c .before .before .before .before .before .loop .i) (omega arith) in
-    let test = rw (c .before .before .set-of .ensures, set-kept _ _ (c .before .before .before .l .given)) at (c .before .inside .ensures) in
-    sym (c .before .before .before .before .before .loop .inv .1 ∙ reads-found _ _ front (sym test ∙ c .if1 .taken))
+    sym (c .before .before .before .before .before .loop .inv .1 ∙ reads-found _ front (c .before .before .before .l .given) (c .before .before .set-of .ensures) _ (sym (c .before .inside .ensures) ∙ c .if1 .taken))
 
 add-i : tie.Need-add-i Inv-loop μ-loop
 add-i c = search needs
@@ -51,8 +49,7 @@ loop-less c = search needs
 loop-again : tie.Need-loop-again Inv-loop μ-loop
 loop-again c =
     let front = held-front (c .before .before .before .before .before .before .before .before .args .t1) (c .before .before .before .before .before .loop .i) (omega arith) in
-    let test = rw (c .before .before .set-of .ensures, set-kept _ _ (c .before .before .before .l .given)) at (c .before .inside .ensures) in
-    (search needs, c .before .before .before .before .before .loop .inv .1 ∙ reads-passed _ _ front (sym test ∙ c .if1 .left))
+    (search needs, c .before .before .before .before .before .loop .inv .1 ∙ reads-passed _ front (c .before .before .before .l .given) (c .before .before .set-of .ensures) _ (sym (c .before .inside .ensures) ∙ c .if1 .left))
 
 returns-2 : tie.Need-returns-2 Inv-loop μ-loop
 returns-2 c = sym (c .before .loop .inv .1 ∙ reads-end _ _ (held-end (c .before .before .before .before .args .t1) (c .before .loop .i) (omega arith)))

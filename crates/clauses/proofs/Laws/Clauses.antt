@@ -1,18 +1,23 @@
 -- The operations on one clause (dqbf's specs/Literal.antt), a literal at a time: `holds`, `without`, `pick`, `covers`, `clashes`.
 -- Of each: what it is where a loop has nothing before it, D ≡ [], and by its literal in front, D ≡ k ∷ R.
-use mathlib.Core.Path.{_≡_, refl}
+use mathlib.Core.Path.{_≡_, refl, ap, _∙_}
 use mathlib.Core.Logic.{_⊎_, inl, inr, _≢_}
-use mathlib.Core.Bool.{Bool, true, false, _&&_, _||_}
+use mathlib.Core.Bool.{true, false, _||_}
 use mathlib.Core.List.{[], _∷_}
-use Prim.Native.Nat.{ℕ, _+_, _/_, _%_, _≤_}
+use Prim.Native.Nat.{ℕ, _+_, _/_, _%_, _≤_, _<_, _^_}
 use native.Mathlib.Omega.{arith}
 use borrow.Author.Tests.{eq-eqb, ne-eqb, eqb-false}
 use lib.Dec.{eqb}
-use lib.IntN.{ℤ, natAbs}
-use lib.ListN.{length}
+use lib.IntN.{ℤ, pos, natAbs}
+use lib.ListN.{length, drop, getD}
+use lib.Signed.{mag}
+use mir.Syntax.{w16}
+use mir.Val.{toZ, ofZ}
 use Rattle.dqbf.specs.Literal.{Clause, holds, without, pick, covers, clashes}
 use Rattle.dqbf.proofs.Laws.Literals.{same-same, same-not}
+use Rattle.dqbf.proofs.Laws.Signed.{var-kept}
 use Rattle.dqbf.proofs.Laws.Tests.{either, or-left, or-right}
+use Rattle.clauses.proofs.Laws.Held.{list-front}
 
 module _ (l : ℤ) where
   -- ---- holds
@@ -88,7 +93,7 @@ module _ (left right : ℕ) where
     unfolding covers
     covers-passed n = rw (e, either-bit left right n)
 
--- ---- clashes
+-- ---- clashes, of a list from place i on, whose entries there were read
 
 pub clashes-short : (D : Clause) → length D ≤ 1 → clashes D ≡ false
 unfolding clashes
@@ -96,11 +101,25 @@ clashes-short [] h = refl
 clashes-short (l ∷ []) h = refl
 clashes-short (l ∷ k ∷ C) h = absurd (omega arith)
 
-module _ {D R S : Clause} {l k : ℤ} (e : D ≡ l ∷ R) (f : R ≡ k ∷ S) where
-  pub clashes-found : natAbs l ≡ natAbs k → clashes D ≡ true
-  unfolding clashes
-  clashes-found q = rw (e, f, eq-eqb (natAbs l) (natAbs k) q)
+module _ (C : Clause) (i : ℕ) where
+  abbrev l : ℤ
+  l = getD C i (pos 0)
 
-  pub clashes-passed : natAbs l ≢ natAbs k → clashes D ≡ clashes R
-  unfolding clashes
-  clashes-passed n = rw (e, f, ne-eqb (natAbs l) (natAbs k) n)
+  abbrev k : ℤ
+  k = getD C (i + 1) (pos 0)
+
+  abbrev variable : ℤ → ℕ
+  variable e = natAbs (toZ w16 (ofZ w16 e))
+
+  module _ (h : i + 1 < length C) (fl : mag l < 2 ^ 15) (fk : mag k < 2 ^ 15) where
+    fronts : drop i C ≡ l ∷ k ∷ drop (i + 1 + 1) C
+    fronts = list-front C i (pos 0) (omega arith) ∙ ap (l ∷_) (list-front C (i + 1) (pos 0) h)
+
+    pub clashes-found : variable l ≡ variable k → clashes (drop i C) ≡ true
+    unfolding clashes
+    clashes-found q = rw (fronts, eq-eqb (natAbs l) (natAbs k) (omega (arith, var-kept l fl, var-kept k fk)))
+
+    pub clashes-passed : variable l ≢ variable k → clashes (drop i C) ≡ clashes (drop (i + 1) C)
+    unfolding clashes
+    clashes-passed n =
+        rw (fronts, ne-eqb (natAbs l) (natAbs k) (λ e. n (omega (arith, var-kept l fl, var-kept k fk))), list-front C (i + 1) (pos 0) h)
