@@ -27,4 +27,5 @@ pub struct Ran {
     pub answer: RunAnswer,
 }
 
+pub mod adding;
 pub mod refusal;

@@ -1,0 +1,58 @@
+// The last tests of each rule, and the clauses that an accepted step writes behind the last literal.
+use crate::StepAnswer;
+use crate::Stepped;
+use crate::refusal;
+use clauses::held::Held;
+use clauses::join;
+use tables::State;
+use tables::adding;
+ghost use mathlib.Core.Path.{_≡_};
+ghost use Rattle.clauses.specs.Held.{clauseOf};
+ghost use Rattle.tables.specs.Tables.{tablesOf, modelIn};
+ghost use Rattle.steps.specs.Adding.{Holding, After, joined};
+ghost use Rattle.steps.specs.declared.StepAnswer.the-variants.{Refused};
+
+// Nothing changes.
+pub fn refused(state: State, number: u32) -> Stepped
+    ensures { λ r. ⌜ r ≡ record { state = state; answer = Refused number } ⌝ }
+{
+    let answer = StepAnswer::Refused(number);
+    Stepped { state, answer }
+}
+
+// The join of two clauses as a new clause.
+pub fn add_join(
+    x: Held,
+    y: Held,
+    literals: &mut [i16],
+    ends: &mut [u16],
+    sets: &[u64],
+    kinds: &[u8],
+    state: State,
+) -> Stepped
+    requires { ⌜ Holding (tablesOf (now literals) (now ends) (now sets) (now kinds)) state ⌝ }
+    ensures { λ r. ⌜ After (tablesOf (now (literals .entry)) (now (ends .entry)) (now (sets .entry)) (now (kinds .entry))) state
+        (joined (modelIn (tablesOf (now (literals .entry)) (now (ends .entry)) (now (sets .entry)) (now (kinds .entry))) state) (clauseOf x) (clauseOf y))
+        (tablesOf (now (literals .exit)) (now (ends .exit)) (now (sets .entry)) (now (kinds .entry))) r ⌝ }
+{
+    let summary = join::join_summary(x, y);
+    let width = summary.width;
+    if width > 32 {
+        return refused(state, refusal::TOO_WIDE);
+    }
+    let clash = summary.clashes;
+    if clash {
+        return refused(state, refusal::COMPLEMENTARY);
+    }
+    if adding::is_full(state, 1, width as u32, 0) {
+        return refused(state, refusal::NO_ROOM);
+    }
+    let place = state.literals as usize;
+    let count = join::write_join(&mut literals[place..], x, y);
+    let next = adding::add_clause(ends, state, count as u16);
+    let answer = StepAnswer::Accepted;
+    Stepped {
+        state: next,
+        answer,
+    }
+}
