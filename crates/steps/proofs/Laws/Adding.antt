@@ -11,7 +11,7 @@ use lib.IntN.{ℤ}
 use lib.ListN.{length, set, take, drop}
 use borrow.Rule.Slice.PartMut.{putMid}
 use Rattle.tables.proofs.Laws.Rows.{stored-tail}
-use Rattle.dqbf.specs.Limits.{tables, widthLimit, clauseLimit}
+use Rattle.dqbf.specs.Limits.{tables, widthLimit, clauseLimit, literalLimit}
 use Rattle.dqbf.specs.Refusal.{Refusal, refusal}
 use Rattle.dqbf.specs.Literal.{Clause, join, clashes, total}
 use Rattle.dqbf.specs.Set.{Set}
@@ -95,49 +95,57 @@ module _ (m : Model) (C D : Clause) where
 
 -- ---- what the functions of src/adding.rt leave
 
-module _ (t : Tables) (s : State) (h : Holding t s) where
-  -- a refusal that the tests come to
-  pub after-refused : (e : Examined) (x : Refusal) (r : Stepped) → e ≡ refuses x → r ≡ record { state = s; answer = Refused (x .number) } → After t s e t r
-  after-refused e x r p q = rw (p, q) (left-refused t s h x)
-
-  module _ (C D : Clause) {sum : JoinSummary} (q : sum ≡ summaryOf C D) where
-    abbrev k : Model
-    k = modelIn t s
-
-    pub after-24 : {r : Stepped} → widthLimit < sum .width → r ≡ record { state = s; answer = Refused 24 } → After t s (joined k C D) t r
-    after-24 {r} w e = after-refused (joined k C D) (refusal 24) r (joined-24 k C D (rw q at w)) e
-
-    module _ (narrow : sum .width ≤ widthLimit) where
-      pub after-23 : {r : Stepped} → sum .clashes ≡ true → r ≡ record { state = s; answer = Refused 23 } → After t s (joined k C D) t r
-      after-23 {r} w e = after-refused (joined k C D) (refusal 23) r (joined-23 k C D (rw q at narrow) (rw q at w)) e
-
-      module _ (calm : sum .clashes ≡ false) where
-        is-fitted : joined k C D ≡ fitted k (One (join C D))
-        is-fitted = joined-fitted k C D (rw q at narrow) (rw q at calm)
-
-        no-room : {f : Bool} → f ≡ full s 1 (sum .width) 0 → noRoom tables k (One (join C D)) ≡ f
-        unfolding total
-        no-room e = room-told t s (h .lent) (h .formed) (One (join C D)) ∙ rw (add-zero (length (join C D)), e, q)
-
-        pub after-25 : {f : Bool} {r : Stepped} → f ≡ full s 1 (sum .width) 0 → f ≡ true → r ≡ record { state = s; answer = Refused 25 } → After t s (joined k C D) t r
-        after-25 {f} {r} e w p = after-refused (joined k C D) (refusal 25) r (is-fitted ∙ fitted-25 k (One (join C D)) (no-room e ∙ w)) p
-
-        module _ {f : Bool} (told : f ≡ full s 1 (sum .width) 0) (free : f ≡ false) where
-          pub join-fits : Fits tables k (One (join C D))
-          join-fits = fits-in tables k (One (join C D)) (no-room told ∙ free)
-
-          pub join-room : RoomFor s 1 (length (join C D)) 0
-          join-room = room-one t s (h .lent) (h .formed) (join C D) join-fits
-
-          pub after-joined : {l : List ℤ} {e : List ℕ} {r : State} → l ≡ stored (t .literals) (s .literals) (join C D)
-              → e ≡ set (t .ends) (s .clauses .0) (s .literals + length (join C D)) → r ≡ stepCounted (clauseEnded s (length (join C D)))
-              → After t s (joined k C D) (tablesOf l e (t .sets) (t .kinds)) (record { state = r; answer = Accepted })
-          after-joined p o u = rw (is-fitted, fitted-accepted k (One (join C D)) (no-room told ∙ free), p, o, u) (left-one t s h (join C D) join-fits)
-
-          -- what `tables::adding::add_clause` asks
-          pub join-asked : {n : ℕ} → n ≡ length (join C D) → RoomFor s 1 n 0 × (clauseLimit ≤ length (t .ends)) × (s .steps .0 < clauseLimit)
-          join-asked e = (rw e join-room, long-is t (h .lent) .ends, step-room t s (h .lent) (h .formed) (One (join C D)) join-fits (omega arith))
-
 -- the tail lent to a writer, back with what it wrote
 pub tail-stored : {A : Type 0} (xs ys zs : List A) (n : ℕ) → zs ≡ ys ++ drop (length ys) (take (length xs - n) (drop n xs)) → putMid n (length xs - n) xs zs ≡ stored xs n ys
 tail-stored xs ys zs n e = rw e (stored-tail xs n ys)
+
+module _ (t : Tables) (s : State) (h : Holding t s) where
+  -- a refusal that the tests come to
+  pub after-refused : (e : Examined) (x : Refusal) {r : Stepped} → e ≡ refuses x → r ≡ record { state = s; answer = Refused (x .number) } → After t s e t r
+  after-refused e x p q = rw (p, q) (left-refused t s h x)
+
+  -- one clause: e comes to the test of room, of which f tells
+  module _ (e : Examined) (C : Clause) (is : e ≡ fitted (modelIn t s) (One C)) {w : ℕ} (width : w ≡ length C) {f : Bool} (told : f ≡ full s 1 w 0) where
+    no-room : noRoom tables (modelIn t s) (One C) ≡ f
+    unfolding total
+    no-room = room-told t s (h .lent) (h .formed) (One C) ∙ rw (add-zero (length C), told, width)
+
+    pub one-full : {r : Stepped} → f ≡ true → r ≡ record { state = s; answer = Refused 25 } → After t s e t r
+    one-full b q = after-refused e (refusal 25) (is ∙ fitted-25 (modelIn t s) (One C) (no-room ∙ b)) q
+
+    module _ (free : f ≡ false) where
+      fits : Fits tables (modelIn t s) (One C)
+      fits = fits-in tables (modelIn t s) (One C) (no-room ∙ free)
+
+      -- the tail has room for it
+      pub one-room : s .literals + length C ≤ length (t .literals)
+      one-room = omega (arith, room-one t s (h .lent) (h .formed) C fits .literals-fit, long-is t (h .lent) .literals)
+
+      pub one-narrow : length C ≤ literalLimit
+      one-narrow = omega (arith, room-one t s (h .lent) (h .formed) C fits .literals-fit)
+
+      -- what `tables::adding::add_clause` asks
+      pub one-asked : {n : ℕ} → n ≡ length C → RoomFor s 1 n 0 × (clauseLimit ≤ length (t .ends)) × (s .steps .0 < clauseLimit)
+      one-asked q = (rw q (room-one t s (h .lent) (h .formed) C fits), long-is t (h .lent) .ends, step-room t s (h .lent) (h .formed) (One C) fits (omega arith))
+
+      pub one-added : {n : ℕ} {l z : List ℤ} {d : List ℕ} {r : State} → n ≡ length C → z ≡ C ++ drop (length C) (take (length (t .literals) - s .literals) (drop (s .literals) (t .literals)))
+          → l ≡ putMid (s .literals) (length (t .literals) - s .literals) (t .literals) z → d ≡ set (t .ends) (s .clauses .0) (s .literals + n) → r ≡ stepCounted (clauseEnded s n)
+          → After t s e (tablesOf l d (t .sets) (t .kinds)) (record { state = r; answer = Accepted })
+      one-added {z = z} q p o u v =
+          rw (is, fitted-accepted (modelIn t s) (One C) (no-room ∙ free), o, tail-stored (t .literals) C z (s .literals) p, u, v, q) (left-one t s h C fits)
+
+  -- ---- the join
+
+  module _ (C D : Clause) {sum : JoinSummary} (q : sum ≡ summaryOf C D) where
+    pub join-wide : {r : Stepped} → widthLimit < sum .width → r ≡ record { state = s; answer = Refused 24 } → After t s (joined (modelIn t s) C D) t r
+    join-wide w p = after-refused (joined (modelIn t s) C D) (refusal 24) (joined-24 (modelIn t s) C D (rw q at w)) p
+
+    module _ (narrow : sum .width ≤ widthLimit) where
+      pub join-clashes : {r : Stepped} → sum .clashes ≡ true → r ≡ record { state = s; answer = Refused 23 } → After t s (joined (modelIn t s) C D) t r
+      join-clashes w p = after-refused (joined (modelIn t s) C D) (refusal 23) (joined-23 (modelIn t s) C D (rw q at narrow) (rw q at w)) p
+
+      pub join-fitted : sum .clashes ≡ false → joined (modelIn t s) C D ≡ fitted (modelIn t s) (One (join C D))
+      join-fitted calm = joined-fitted (modelIn t s) C D (rw q at narrow) (rw q at calm)
+
+    pub join-width : sum .width ≡ length (join C D)
+    join-width = rw q

@@ -1,13 +1,10 @@
 use borrow.Author.Needs.{needs}
 use Prim.Native.Nat.{_≤_, _+_}
+use mathlib.Core.Path.{_≡_, refl}
 use native.Mathlib.Omega.{arith}
 use lib.ListN.{length, length-take, length-drop}
-use Rattle.dqbf.specs.Literal.{join}
 use Rattle.clauses.specs.Held.{clauseOf}
-use Rattle.tables.proofs.Laws.Formed.{long-is}
-use Rattle.steps.proofs.Laws.Adding.{after-24, after-23, after-25, join-room, join-fits, after-joined}
-use Rattle.steps.proofs.Laws.Adding.{join-asked}
-use Rattle.steps.proofs.Laws.Adding.{tail-stored}
+use Rattle.steps.proofs.Laws.Adding.{join-wide, join-clashes, join-fitted, join-width, one-full, one-room, one-narrow, one-asked, one-added}
 use Rattle.steps.proofs.adding.add_join.Statement.{statement}
 use Rattle.steps.proofs.adding.add_join.Tie as tie
 use Rattle.steps.proofs.adding.add_join.Reads as reads
@@ -28,7 +25,7 @@ refused-requires c κs = search needs
 
 -- src/adding.rt:33:9
 returns : tie.Need-returns
-returns c = after-24 _ _ (c .before .before .before .before .before .before .pre) (clauseOf (c .before .before .before .before .before .before .args .x)) (clauseOf (c .before .before .before .before .before .before .args .y)) (c .before .before .join-summary .ensures) (c .before .if1 .taken) (c .refused .ensures)
+returns c = join-wide _ _ (c .before .before .before .before .before .before .pre) (clauseOf (c .before .before .before .before .before .before .args .x)) (clauseOf (c .before .before .before .before .before .before .args .y)) (c .before .before .join-summary .ensures) (c .before .if1 .taken) (c .refused .ensures)
 
 -- src/adding.rt:37:9
 refused-requires-2 : tie.Need-refused-requires-2
@@ -36,7 +33,7 @@ refused-requires-2 c κs = search needs
 
 -- src/adding.rt:37:9
 returns-2 : tie.Need-returns-2
-returns-2 c = after-23 _ _ (c .before .before .before .before .before .before .before .pre) (clauseOf (c .before .before .before .before .before .before .before .args .x)) (clauseOf (c .before .before .before .before .before .before .before .args .y)) (c .before .before .before .join-summary .ensures) (c .before .before .if1 .left) (c .before .if2 .taken) (c .refused2 .ensures)
+returns-2 c = join-clashes _ _ (c .before .before .before .before .before .before .before .pre) (clauseOf (c .before .before .before .before .before .before .before .args .x)) (clauseOf (c .before .before .before .before .before .before .before .args .y)) (c .before .before .before .join-summary .ensures) (c .before .before .if1 .left) (c .before .if2 .taken) (c .refused2 .ensures)
 
 -- src/adding.rt:39:34
 cast-is-full : tie.Need-cast-is-full
@@ -52,7 +49,9 @@ refused-requires-3 c κs = search needs
 
 -- src/adding.rt:40:9
 returns-3 : tie.Need-returns-3
-returns-3 c = after-25 _ _ (c .before .before .before .before .before .before .before .before .before .pre) (clauseOf (c .before .before .before .before .before .before .before .before .before .args .x)) (clauseOf (c .before .before .before .before .before .before .before .before .before .args .y)) (c .before .before .before .before .before .join-summary .ensures) (c .before .before .before .before .if1 .left) (c .before .before .before .if2 .left) (c .before .before .is-full .ensures) (c .before .if3 .taken) (c .refused3 .ensures)
+returns-3 c =
+    let q = c .before .before .before .before .before .join-summary .ensures in
+    one-full _ _ (c .before .before .before .before .before .before .before .before .before .pre) _ _ (join-fitted _ _ (c .before .before .before .before .before .before .before .before .before .pre) _ _ q (c .before .before .before .before .if1 .left) (c .before .before .before .if2 .left)) (join-width _ _ (c .before .before .before .before .before .before .before .before .before .pre) _ _ q) (c .before .before .is-full .ensures) (c .before .if3 .taken) (c .refused3 .ensures)
 
 -- src/adding.rt:42:17
 cast-place : tie.Need-cast-place
@@ -64,11 +63,11 @@ mul-write-join c = search needs
 
 -- src/adding.rt:43:34
 sub-write-join : tie.Need-sub-write-join
-sub-write-join c = let room = join-room _ _ (c .before .before .before .before .before .before .before .before .before .pre) (clauseOf (c .before .before .before .before .before .before .before .before .before .args .x)) (clauseOf (c .before .before .before .before .before .before .before .before .before .args .y)) (c .before .before .before .before .before .join-summary .ensures) (c .before .before .before .before .if1 .left) (c .before .before .before .if2 .left) (c .before .before .is-full .ensures) (c .before .if3 .left) in omega (arith, room .literals-fit, long-is _ (c .before .before .before .before .before .before .before .before .before .pre .lent) .literals)
+sub-write-join c = let q = c .before .before .before .before .before .join-summary .ensures in omega (arith, one-room _ _ (c .before .before .before .before .before .before .before .before .before .pre) _ _ (join-fitted _ _ (c .before .before .before .before .before .before .before .before .before .pre) _ _ q (c .before .before .before .before .if1 .left) (c .before .before .before .if2 .left)) (join-width _ _ (c .before .before .before .before .before .before .before .before .before .pre) _ _ q) (c .before .before .is-full .ensures) (c .before .if3 .left))
 
 -- src/adding.rt:43:34
 part-write-join-start : tie.Need-part-write-join-start
-part-write-join-start c = let room = join-room _ _ (c .before .before .before .before .before .before .before .before .before .pre) (clauseOf (c .before .before .before .before .before .before .before .before .before .args .x)) (clauseOf (c .before .before .before .before .before .before .before .before .before .args .y)) (c .before .before .before .before .before .join-summary .ensures) (c .before .before .before .before .if1 .left) (c .before .before .before .if2 .left) (c .before .before .is-full .ensures) (c .before .if3 .left) in omega (arith, room .literals-fit, long-is _ (c .before .before .before .before .before .before .before .before .before .pre .lent) .literals)
+part-write-join-start c = let q = c .before .before .before .before .before .join-summary .ensures in omega (arith, one-room _ _ (c .before .before .before .before .before .before .before .before .before .pre) _ _ (join-fitted _ _ (c .before .before .before .before .before .before .before .before .before .pre) _ _ q (c .before .before .before .before .if1 .left) (c .before .before .before .if2 .left)) (join-width _ _ (c .before .before .before .before .before .before .before .before .before .pre) _ _ q) (c .before .before .is-full .ensures) (c .before .if3 .left))
 
 -- src/adding.rt:43:34
 part-write-join-end : tie.Need-part-write-join-end
@@ -76,15 +75,15 @@ part-write-join-end c = search needs
 
 -- src/adding.rt:43:9
 write-join-requires : tie.Need-write-join-requires
-write-join-requires c κs = let room = join-room _ _ (c .before .before .before .before .before .before .before .before .before .before .pre) (clauseOf (c .before .before .before .before .before .before .before .before .before .before .args .x)) (clauseOf (c .before .before .before .before .before .before .before .before .before .before .args .y)) (c .before .before .before .before .before .before .join-summary .ensures) (c .before .before .before .before .before .if1 .left) (c .before .before .before .before .if2 .left) (c .before .before .before .is-full .ensures) (c .before .before .if3 .left) in simp (length-take, length-drop) (omega (arith, room .literals-fit, long-is _ (c .before .before .before .before .before .before .before .before .before .before .pre .lent) .literals))
+write-join-requires c κs = let q = c .before .before .before .before .before .before .join-summary .ensures in simp (length-take, length-drop) (omega (arith, one-room _ _ (c .before .before .before .before .before .before .before .before .before .before .pre) _ _ (join-fitted _ _ (c .before .before .before .before .before .before .before .before .before .before .pre) _ _ q (c .before .before .before .before .before .if1 .left) (c .before .before .before .before .if2 .left)) (join-width _ _ (c .before .before .before .before .before .before .before .before .before .before .pre) _ _ q) (c .before .before .before .is-full .ensures) (c .before .before .if3 .left)))
 
 -- src/adding.rt:44:48
 cast-add-clause : tie.Need-cast-add-clause
-cast-add-clause c = let room = join-room _ _ (c .before .before .before .before .before .before .before .before .before .before .before .before .before .pre) (clauseOf (c .before .before .before .before .before .before .before .before .before .before .before .before .before .args .x)) (clauseOf (c .before .before .before .before .before .before .before .before .before .before .before .before .before .args .y)) (c .before .before .before .before .before .before .before .before .before .join-summary .ensures) (c .before .before .before .before .before .before .before .before .if1 .left) (c .before .before .before .before .before .before .before .if2 .left) (c .before .before .before .before .before .before .is-full .ensures) (c .before .before .before .before .before .if3 .left) in omega (arith, room .literals-fit, c .before .before .write-join .ensures .count)
+cast-add-clause c = let q = c .before .before .before .before .before .before .before .before .before .join-summary .ensures in omega (arith, c .before .before .write-join .ensures .count, one-narrow _ _ (c .before .before .before .before .before .before .before .before .before .before .before .before .before .pre) _ _ (join-fitted _ _ (c .before .before .before .before .before .before .before .before .before .before .before .before .before .pre) _ _ q (c .before .before .before .before .before .before .before .before .if1 .left) (c .before .before .before .before .before .before .before .if2 .left)) (join-width _ _ (c .before .before .before .before .before .before .before .before .before .before .before .before .before .pre) _ _ q) (c .before .before .before .before .before .before .is-full .ensures) (c .before .before .before .before .before .if3 .left))
 
 -- src/adding.rt:44:9
 add-clause-requires : tie.Need-add-clause-requires
-add-clause-requires c κs = join-asked _ _ (c .before .before .before .before .before .before .before .before .before .before .before .before .before .pre) (clauseOf (c .before .before .before .before .before .before .before .before .before .before .before .before .before .args .x)) (clauseOf (c .before .before .before .before .before .before .before .before .before .before .before .before .before .args .y)) (c .before .before .before .before .before .before .before .before .before .join-summary .ensures) (c .before .before .before .before .before .before .before .before .if1 .left) (c .before .before .before .before .before .before .before .if2 .left) (c .before .before .before .before .before .before .is-full .ensures) (c .before .before .before .before .before .if3 .left) (c .before .before .write-join .ensures .count)
+add-clause-requires c κs = let q = c .before .before .before .before .before .before .before .before .before .join-summary .ensures in one-asked _ _ (c .before .before .before .before .before .before .before .before .before .before .before .before .before .pre) _ _ (join-fitted _ _ (c .before .before .before .before .before .before .before .before .before .before .before .before .before .pre) _ _ q (c .before .before .before .before .before .before .before .before .if1 .left) (c .before .before .before .before .before .before .before .if2 .left)) (join-width _ _ (c .before .before .before .before .before .before .before .before .before .before .before .before .before .pre) _ _ q) (c .before .before .before .before .before .before .is-full .ensures) (c .before .before .before .before .before .if3 .left) (c .before .before .write-join .ensures .count)
 
 -- src/adding.rt:24:1
 same-length : tie.Need-same-length
@@ -97,9 +96,8 @@ same-length-2 c = search needs
 -- src/adding.rt:24:1
 returns-4 : tie.Need-returns-4
 returns-4 c =
-    let n = c .before .before .before .before .before .write-join .ensures .count in
-    let lits = tail-stored (c .before .before .before .before .before .before .before .before .before .before .before .before .before .before .before .before .args .literals .now) (join (clauseOf (c .before .before .before .before .before .before .before .before .before .before .before .before .before .before .before .before .args .x)) (clauseOf (c .before .before .before .before .before .before .before .before .before .before .before .before .before .before .before .before .args .y))) (c .before .before .before .before .before .write-join .last .0) (c .before .before .before .before .before .before .before .before .before .before .before .before .before .before .before .before .args .state .literals) (c .before .before .before .before .before .write-join .ensures .left) in
-    after-joined _ _ (c .before .before .before .before .before .before .before .before .before .before .before .before .before .before .before .before .pre) (clauseOf (c .before .before .before .before .before .before .before .before .before .before .before .before .before .before .before .before .args .x)) (clauseOf (c .before .before .before .before .before .before .before .before .before .before .before .before .before .before .before .before .args .y)) (c .before .before .before .before .before .before .before .before .before .before .before .before .join-summary .ensures) (c .before .before .before .before .before .before .before .before .before .before .before .if1 .left) (c .before .before .before .before .before .before .before .before .before .before .if2 .left) (c .before .before .before .before .before .before .before .before .before .is-full .ensures) (c .before .before .before .before .before .before .before .before .if3 .left) lits (rw n at (c .before .before .add-clause .ensures .1)) (rw n at (c .before .before .add-clause .ensures .0))
+    let q = c .before .before .before .before .before .before .before .before .before .before .before .before .join-summary .ensures in
+    one-added _ _ (c .before .before .before .before .before .before .before .before .before .before .before .before .before .before .before .before .pre) _ _ (join-fitted _ _ (c .before .before .before .before .before .before .before .before .before .before .before .before .before .before .before .before .pre) _ _ q (c .before .before .before .before .before .before .before .before .before .before .before .if1 .left) (c .before .before .before .before .before .before .before .before .before .before .if2 .left)) (join-width _ _ (c .before .before .before .before .before .before .before .before .before .before .before .before .before .before .before .before .pre) _ _ q) (c .before .before .before .before .before .before .before .before .before .is-full .ensures) (c .before .before .before .before .before .before .before .before .if3 .left) (c .before .before .before .before .before .write-join .ensures .count) (c .before .before .before .before .before .write-join .ensures .left) refl (c .before .before .add-clause .ensures .1) (c .before .before .add-clause .ensures .0)
 
 pub add-join-spec : {M : Type 1} → statement M
 add-join-spec =
