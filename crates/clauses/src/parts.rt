@@ -1,9 +1,11 @@
 // Parts of a held clause: without a literal, and the literals that a mask picks, bit i the one at place i.
 use crate::held;
 use crate::held::Held;
+use dqbf::literal;
 ghost use mathlib.Core.Path.{_≡_};
 ghost use mathlib.Core.List.{[], _∷_, _++_};
-ghost use Prim.Native.Nat.{_<_, _≤_};
+ghost use Prim.Native.Nat.{_+_, _<_, _≤_};
+ghost use lib.IntN.{natAbs, negℤ};
 ghost use lib.ListN.{length};
 ghost use Rattle.dqbf.specs.Literal as Literal;
 ghost use Rattle.clauses.specs.Held.{clauseOf};
@@ -70,6 +72,17 @@ pub fn write_part(tail: &mut [i16], x: Held, mask: u32, last: i16) -> usize
     let count = write_picked(tail, x, mask);
     tail[count] = last;
     count + 1
+}
+
+// The two clauses of a fork, one behind the other, to the front of the tail: the left part with the new variable, the right part with its negation; the number of their literals.
+pub fn write_fork(tail: &mut [i16], x: Held, left: u32, right: u32, variable: i16) -> usize
+    requires { ⌜ (length (Literal.pick left (clauseOf x)) + length (Literal.pick right (clauseOf x)) + 2 ≤ length (now tail)) × (natAbs variable < 32768) ⌝ }
+    ensures { λ r. ⌜ Written ((Literal.pick left (clauseOf x) ++ (variable ∷ [])) ++ (Literal.pick right (clauseOf x) ++ (negℤ variable ∷ [])))
+        (now (tail .entry)) (now (tail .exit)) r ⌝ }
+{
+    let first = write_part(tail, x, left, variable);
+    let second = write_part(&mut tail[first..], x, right, literal::negated(variable));
+    first + second
 }
 
 // How many literals a mask picks.

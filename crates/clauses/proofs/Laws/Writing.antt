@@ -1,6 +1,6 @@
 -- Writing a list over the front of another (specs/Writing.antt), an element at a time, and over the tail of a table that is lent for it. Any element type.
 -- Offers: `Writing`, where a writer stands, with `writing-start`, `writing-room`, `writing-more`, `writing-front`, `writing-done`;
--- of what it left, `written-front`, `written-length`, `written-within`, `written-more`;
+-- of what it left, `written-front`, `written-length`, `written-within`, `written-more`, `written-behind`;
 -- for a table whose tail from n on is lent, `tail-room`, what a writer into it requires, and `tail-stored`, the table after it.
 use mathlib.Core.Path.{_≡_, refl, ap, sym, _∙_}
 use mathlib.Core.List.{List, [], _∷_, _++_, append-nil}
@@ -10,7 +10,7 @@ use native.Mathlib.Omega.{arith}
 use borrow.Rule.Slice.PartMut.{putMid}
 use lib.ListN.{length, take, drop, set, length-set, length-append, length-drop, take-append-drop}
 use lib.Seq.{append-snoc, length-take-le, drop-set-lt, take-suc-set, drop-drop, take-at}
-use Rattle.dqbf.proofs.Laws.Parts.{front-set, tail-lent, tail-written}
+use Rattle.dqbf.proofs.Laws.Parts.{front-part, front-set, tail-lent, tail-written}
 use Rattle.clauses.specs.Writing.{Written}
 
 module _ {A : Type 0} where
@@ -69,6 +69,14 @@ module _ {A : Type 0} where
     pub written-more : {v y : A} → n < length xs → v ≡ y → Written (ys ++ (y ∷ [])) xs (set zs n v) (n + 1)
     written-more {y = y} h q =
         record { count = omega (arith, w .count, length-append ys (y ∷ [])); left = rw q (front-set zs xs ys n y (w .count) h (w .left)) }
+
+    -- another list behind it, over the tail that is lent from n on
+    pub written-behind : {us ws : List A} {m : ℕ} → length ys ≤ length xs → Written us (take (length zs - n) (drop n zs)) ws m
+        → Written (ys ++ us) xs (putMid n (length zs - n) zs ws) (n + m)
+    written-behind {us} {ws} room v = record {
+      count = omega (arith, w .count, v .count, length-append ys us);
+      left = front-part zs xs ys us ws n (w .count) room (w .left) (v .left);
+    }
 
   -- ---- the tail of a table, lent from n on
 
