@@ -1,5 +1,5 @@
 -- What the last tests of a step leave: width and clash of a joined clause, and room (document 01, "Numbers of refusal": 24, 23, 25).
--- Offers `Holding` (the tables are long enough and well formed), `One`, `fitted`, `joined`, `After` (what a step leaves).
+-- Offers `Holding` (the tables are long enough and well formed), `One`, `Two`, `fitted`, `joined`, `After` (what a step leaves).
 use mathlib.Core.Path.{_≡_}
 use mathlib.Core.Bool.{cond, true}
 use mathlib.Core.List.{[], _∷_}
@@ -9,6 +9,7 @@ use lib.ListN.{length}
 use Rattle.dqbf.specs.Limits.{tables, widthLimit}
 use Rattle.dqbf.specs.Refusal.{refusal}
 use Rattle.dqbf.specs.Literal.{Clause, join, clashes}
+use Rattle.dqbf.specs.Set.{Set}
 use Rattle.dqbf.specs.Model.{Model}
 use Rattle.dqbf.specs.Rules.{Addition, noRoom}
 use Rattle.dqbf.specs.Run.{Examined, accepts, refuses}
@@ -29,6 +30,9 @@ After t s e t′ r = _≡_ {A = AfterStep} (record { tables = t′; state = r .s
 
 abbrev pub One : Clause → Addition
 One C = record { clauses = C ∷ []; forks = [] }
+
+abbrev pub Two : Clause → Clause → Set → Addition
+Two C D w = record { clauses = C ∷ D ∷ []; forks = w ∷ [] }
 
 -- 25
 unfoldable pub fitted : Model → Addition → Examined

@@ -2,14 +2,21 @@
 use crate::StepAnswer;
 use crate::Stepped;
 use crate::refusal;
+use clauses::held;
 use clauses::held::Held;
 use clauses::join;
+use clauses::parts;
 use tables::State;
 use tables::adding;
 ghost use mathlib.Core.Path.{_≡_};
 ghost use Rattle.clauses.specs.Held.{clauseOf};
 ghost use Rattle.tables.specs.Tables.{tablesOf, modelIn};
-ghost use Rattle.steps.specs.Adding.{Holding, After, joined};
+ghost use mathlib.Core.List.{[], _∷_, _++_};
+ghost use lib.IntN.{pos, negsuc};
+ghost use Prim.Native.Nat.{suc, _<_};
+ghost use Rattle.dqbf.specs.Literal.{without, pick};
+ghost use Rattle.dqbf.specs.Limits.{variableLimit};
+ghost use Rattle.steps.specs.Adding.{Holding, After, One, Two, fitted, joined};
 ghost use Rattle.steps.specs.declared.StepAnswer.the-variants.{Refused};
 
 // Nothing changes.
@@ -49,6 +56,35 @@ pub fn add_join(
     }
     let place = state.literals as usize;
     let count = join::write_join(&mut literals[place..], x, y);
+    let next = adding::add_clause(ends, state, count as u16);
+    let answer = StepAnswer::Accepted;
+    Stepped {
+        state: next,
+        answer,
+    }
+}
+
+// The clause without a literal as a new clause.
+pub fn add_without(
+    x: Held,
+    literal: i16,
+    literals: &mut [i16],
+    ends: &mut [u16],
+    sets: &[u64],
+    kinds: &[u8],
+    state: State,
+) -> Stepped
+    requires { ⌜ Holding (tablesOf (now literals) (now ends) (now sets) (now kinds)) state ⌝ }
+    ensures { λ r. ⌜ After (tablesOf (now (literals .entry)) (now (ends .entry)) (now (sets .entry)) (now (kinds .entry))) state
+        (fitted (modelIn (tablesOf (now (literals .entry)) (now (ends .entry)) (now (sets .entry)) (now (kinds .entry))) state) (One (without literal (clauseOf x))))
+        (tablesOf (now (literals .exit)) (now (ends .exit)) (now (sets .entry)) (now (kinds .entry))) r ⌝ }
+{
+    let width = held::width(parts::held_without(x, literal));
+    if adding::is_full(state, 1, width as u32, 0) {
+        return refused(state, refusal::NO_ROOM);
+    }
+    let place = state.literals as usize;
+    let count = parts::write_without(&mut literals[place..], x, literal);
     let next = adding::add_clause(ends, state, count as u16);
     let answer = StepAnswer::Accepted;
     Stepped {

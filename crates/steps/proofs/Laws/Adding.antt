@@ -27,10 +27,10 @@ use Rattle.clauses.specs.Join.{summaryOf}
 use Rattle.clauses.specs.declared.join.JoinSummary.{JoinSummary}
 use Rattle.tables.specs.declared.State.{State}
 use Rattle.tables.proofs.Laws.Spread.{model-held, state-held}
-use Rattle.tables.proofs.Laws.Adding.{Two, one-clause, two-clauses, room-told, room-one, step-room}
+use Rattle.tables.proofs.Laws.Adding.{one-clause, two-clauses, room-told, room-one, step-room}
 use Rattle.tables.proofs.Laws.Formed.{long-is}
 use Rattle.steps.specs.Steps.{AfterStep, stepAnswer, examined}
-use Rattle.steps.specs.Adding.{Holding, After, One, fitted, joined}
+use Rattle.steps.specs.Adding.{Holding, After, One, Two, fitted, joined}
 use Rattle.steps.specs.declared.Stepped.{Stepped}
 use Rattle.steps.specs.declared.StepAnswer.the-variants.{Accepted, Refused}
 
