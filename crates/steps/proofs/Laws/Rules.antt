@@ -1,0 +1,122 @@
+-- The three rules over tables that hold a model: clauses by number, and each test as the code comes to it, one law for each outcome.
+use mathlib.Core.Path.{_≡_, refl, sym, _∙_, ap}
+use mathlib.Core.Logic.{_⊎_, inl, inr}
+use mathlib.Core.Bool.{Bool, true, false, cond, not, _&&_, _||_, true≢false}
+use mathlib.Core.List.{List}
+use Prim.Native.Nat.{ℕ, zero, suc, _+_, _-_, _≤_, _<_}
+use native.Mathlib.Omega.{arith}
+use lib.Dec.{eqb, ltb}
+use lib.IntN.{ℤ, negℤ, natAbs}
+use lib.ListN.{length}
+use Rattle.dqbf.specs.Limits.{tables, widthLimit, literalRange}
+use Rattle.dqbf.specs.Refusal.{refusal}
+use Rattle.dqbf.specs.Literal.{Clause, _∈_, literalIn, holds, without, join, clashes}
+use Rattle.dqbf.specs.Model.{Model, clauses, used}
+use Rattle.dqbf.specs.Record.{resolution}
+use Rattle.dqbf.specs.Rules.{unknown, clauseAt, noRoom, resolvent, resolving}
+use Rattle.dqbf.specs.Run.{examine}
+use Rattle.dqbf.proofs.Laws.Tests.{or-no, eqb-same, ltb-no}
+use Rattle.dqbf.proofs.Laws.Outcomes.{resolution-first, resolution-second, resolution-22, resolution-24, resolution-23, resolution-25, resolution-accepted}
+use Rattle.tables.specs.Tables.{Tables, modelIn, stretch, entry}
+use Rattle.tables.specs.declared.State.{State}
+use Rattle.tables.proofs.Laws.Adding.{variable-count}
+use Rattle.tables.proofs.Laws.Formed.{long-is, formed-is}
+use Rattle.tables.proofs.Laws.Spread.{valid-held}
+use Rattle.tables.proofs.Laws.Entries.{unknown-told, range-rises, range-ends, range-narrow, clause-at, clause-there}
+use Rattle.steps.specs.Adding.{Holding, After, One, fitted, joined}
+use Rattle.steps.specs.declared.Stepped.{Stepped}
+use Rattle.steps.specs.declared.StepAnswer.the-variants.{Refused}
+use Rattle.steps.proofs.Laws.Adding.{after-refused, joined-24, joined-23, joined-fitted, fitted-25, fitted-accepted}
+use Rattle.steps.proofs.Laws.Pivots.{pivot-holds, pivot-is}
+
+not-true : (b : Bool) → not b ≡ true → b ≡ false
+not-true true h = sym h
+not-true false h = refl
+
+not-false : (b : Bool) → not b ≡ false → b ≡ true
+not-false true h = refl
+not-false false h = sym h
+
+-- ---- clauses by number
+
+-- the test of a clause number
+abbrev pub Unknown : State → ℕ → Bool
+Unknown s c = eqb c 0 || ltb (s .clauses .0) c
+
+-- what is asked of a clause's range
+pub record Ranged (t : Tables) (c : ℕ) : Type 0 where
+  pub some : 0 < c
+  pub in-ends : c ≤ length (t .ends)
+  pub rises : entry (t .ends) (c - 1) ≤ entry (t .ends) c
+  pub in-literals : entry (t .ends) c ≤ length (t .literals)
+  pub narrow : entry (t .ends) c - entry (t .ends) (c - 1) ≤ widthLimit
+
+module _ (t : Tables) (s : State) (h : Holding t s) where
+  pub unknown-is : (c : ℕ) {f : Bool} → f ≡ Unknown s c → unknown (modelIn t s) c ≡ f
+  unknown-is c e = unknown-told t s (h .lent) (h .formed) c ∙ sym e
+
+  few-variables : used (modelIn t s) ≤ literalRange
+  few-variables = omega (arith, variable-count t s (h .lent) (h .formed), formed-is t s (h .formed) .counts .variables)
+
+  module _ (c : ℕ) {f : Bool} (told : f ≡ Unknown s c) (known : f ≡ false) where
+    parts : (eqb c 0 ≡ false) × (ltb (s .clauses .0) c ≡ false)
+    parts = or-no (eqb c 0) (ltb (s .clauses .0) c) (sym told ∙ known)
+
+    some : c ≡ 0 → ⊥
+    some e = true≢false (sym (eqb-same 0) ∙ (rw e at (parts .0)))
+
+    low : c ≤ s .clauses .0
+    low = ltb-no (s .clauses .0) c (parts .1)
+
+    pub known-is : unknown (modelIn t s) c ≡ false
+    known-is = unknown-is c told ∙ known
+
+    pub ranged : Ranged t c
+    ranged = record {
+      some = positive c some;
+      in-ends = omega (arith, low, formed-is t s (h .formed) .counts .clauses, long-is t (h .lent) .ends);
+      rises = range-rises t s (h .lent) (h .formed) c some low;
+      in-literals = range-ends t s (h .lent) (h .formed) c some low;
+      narrow = range-narrow t s (h .lent) (h .formed) c some low;
+    }
+      where
+        positive : (c : ℕ) → (c ≡ 0 → ⊥) → 0 < c
+        positive zero n = absurd (n refl)
+        positive (suc c) n = omega arith
+
+    pub ranged-clause : {C : Clause} → C ≡ stretch (entry (t .ends) (c - 1)) (entry (t .ends) c) (t .literals) → C ≡ clauseAt (modelIn t s) c
+    ranged-clause e = e ∙ sym (clause-at t s (h .lent) (h .formed) c some low)
+
+    -- a record's literal in this clause
+    pub in-clause : {C : Clause} → C ≡ clauseAt (modelIn t s) c → (z : ℤ) {b : Bool} → b ≡ holds (literalIn z) C → holds z (clauseAt (modelIn t s) c) ≡ b
+    in-clause e z p = sym (p ∙ rw e (pivot-holds tables (modelIn t s) (valid-held t s (h .lent) (h .formed)) few-variables (clauseAt (modelIn t s) c) (clause-there t s (h .lent) (h .formed) c some low) z))
+
+    pub in-clause-is : {C : Clause} → C ≡ clauseAt (modelIn t s) c → (z : ℤ) {b : Bool} → b ≡ holds (literalIn z) C → b ≡ true → literalIn z ≡ z
+    in-clause-is e z p q =
+        pivot-is tables (modelIn t s) (valid-held t s (h .lent) (h .formed)) few-variables (clauseAt (modelIn t s) c) (clause-there t s (h .lent) (h .formed) c some low) z (rw e at (sym p ∙ q))
+
+-- ---- resolution: what is left of its tests behind 22 is the join's
+
+module _ (m : Model) (c d : ℕ) (z : ℤ) (known : unknown m c ≡ false) (known′ : unknown m d ≡ false)
+    (held : (holds z (clauseAt m c) && holds (negℤ z) (clauseAt m d)) ≡ true) where
+  abbrev A : Clause
+  A = without z (clauseAt m c)
+
+  abbrev B : Clause
+  B = without (negℤ z) (clauseAt m d)
+
+  pub resolution-joined : examine tables m (resolution c d z) ≡ joined m A B
+  unfolding joined fitted resolvent resolving
+  resolution-joined = wide (ltb widthLimit (length (join A B))) refl
+    where
+      room : (b : Bool) → noRoom tables m (One (join A B)) ≡ b → ltb widthLimit (length (join A B)) ≡ false → clashes (join A B) ≡ false → examine tables m (resolution c d z) ≡ joined m A B
+      room true e n k = rw (n, k, e) (resolution-25 tables m c d z known known′ held n k e)
+      room false e n k = rw (n, k, e) (resolution-accepted tables m c d z known known′ held n k e)
+
+      calm : (b : Bool) → clashes (join A B) ≡ b → ltb widthLimit (length (join A B)) ≡ false → examine tables m (resolution c d z) ≡ joined m A B
+      calm true e n = rw (n, e) (resolution-23 tables m c d z known known′ held n e)
+      calm false e n = room (noRoom tables m (One (join A B))) refl n e
+
+      wide : (b : Bool) → ltb widthLimit (length (join A B)) ≡ b → examine tables m (resolution c d z) ≡ joined m A B
+      wide true e = rw e (resolution-24 tables m c d z known known′ held e)
+      wide false e = calm (clashes (join A B)) refl e
