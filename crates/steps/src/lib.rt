@@ -28,4 +28,5 @@ pub struct Ran {
 }
 
 pub mod adding;
+pub mod clause;
 pub mod refusal;

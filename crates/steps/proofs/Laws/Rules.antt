@@ -23,7 +23,7 @@ use Rattle.tables.proofs.Laws.Adding.{variable-count}
 use Rattle.tables.proofs.Laws.Formed.{long-is, formed-is}
 use Rattle.tables.proofs.Laws.Spread.{valid-held}
 use Rattle.tables.proofs.Laws.Entries.{unknown-told, range-rises, range-ends, range-narrow, clause-at, clause-there}
-use Rattle.steps.specs.Adding.{Holding, After, One, fitted, joined}
+use Rattle.steps.specs.Adding.{Holding, After, One, fitted, joined, isUnknown, Ranged}
 use Rattle.steps.specs.declared.Stepped.{Stepped}
 use Rattle.steps.specs.declared.StepAnswer.the-variants.{Refused}
 use Rattle.steps.proofs.Laws.Adding.{after-refused, joined-24, joined-23, joined-fitted, fitted-25, fitted-accepted}
@@ -39,27 +39,17 @@ not-false false h = sym h
 
 -- ---- clauses by number
 
--- the test of a clause number
-abbrev pub Unknown : State → ℕ → Bool
-Unknown s c = eqb c 0 || ltb (s .clauses .0) c
-
--- what is asked of a clause's range
-pub record Ranged (t : Tables) (c : ℕ) : Type 0 where
-  pub some : 0 < c
-  pub in-ends : c ≤ length (t .ends)
-  pub rises : entry (t .ends) (c - 1) ≤ entry (t .ends) c
-  pub in-literals : entry (t .ends) c ≤ length (t .literals)
-  pub narrow : entry (t .ends) c - entry (t .ends) (c - 1) ≤ widthLimit
-
 module _ (t : Tables) (s : State) (h : Holding t s) where
-  pub unknown-is : (c : ℕ) {f : Bool} → f ≡ Unknown s c → unknown (modelIn t s) c ≡ f
+  pub unknown-is : (c : ℕ) {f : Bool} → f ≡ isUnknown s c → unknown (modelIn t s) c ≡ f
+  unfolding isUnknown
   unknown-is c e = unknown-told t s (h .lent) (h .formed) c ∙ sym e
 
   few-variables : used (modelIn t s) ≤ literalRange
   few-variables = omega (arith, variable-count t s (h .lent) (h .formed), formed-is t s (h .formed) .counts .variables)
 
-  module _ (c : ℕ) {f : Bool} (told : f ≡ Unknown s c) (known : f ≡ false) where
+  module _ (c : ℕ) {f : Bool} (told : f ≡ isUnknown s c) (known : f ≡ false) where
     parts : (eqb c 0 ≡ false) × (ltb (s .clauses .0) c ≡ false)
+    unfolding isUnknown
     parts = or-no (eqb c 0) (ltb (s .clauses .0) c) (sym told ∙ known)
 
     some : c ≡ 0 → ⊥
@@ -71,7 +61,7 @@ module _ (t : Tables) (s : State) (h : Holding t s) where
     pub known-is : unknown (modelIn t s) c ≡ false
     known-is = unknown-is c told ∙ known
 
-    pub ranged : Ranged t c
+    pub ranged : Ranged (t .literals) (t .ends) c
     ranged = record {
       some = positive c some;
       in-ends = omega (arith, low, formed-is t s (h .formed) .counts .clauses, long-is t (h .lent) .ends);
