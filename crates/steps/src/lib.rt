@@ -30,3 +30,4 @@ pub struct Ran {
 pub mod adding;
 pub mod clause;
 pub mod refusal;
+pub mod rules;

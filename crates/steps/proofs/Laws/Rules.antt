@@ -14,7 +14,7 @@ use Rattle.dqbf.specs.Literal.{Clause, _∈_, literalIn, holds, without, join, 
 use Rattle.dqbf.specs.Model.{Model, clauses, used}
 use Rattle.dqbf.specs.Record.{resolution}
 use Rattle.dqbf.specs.Rules.{unknown, clauseAt, noRoom, resolvent, resolving}
-use Rattle.dqbf.specs.Run.{examine}
+use Rattle.dqbf.specs.Run.{Examined, examine}
 use Rattle.dqbf.proofs.Laws.Tests.{or-no, eqb-same, ltb-no}
 use Rattle.dqbf.proofs.Laws.Outcomes.{resolution-first, resolution-second, resolution-22, resolution-24, resolution-23, resolution-25, resolution-accepted}
 use Rattle.tables.specs.Tables.{Tables, modelIn, stretch, entry}
@@ -36,6 +36,10 @@ not-true false h = refl
 not-false : (b : Bool) → not b ≡ false → b ≡ true
 not-false true h = refl
 not-false false h = sym h
+
+and-false : (b : Bool) → (b && false) ≡ false
+and-false true = refl
+and-false false = refl
 
 -- ---- clauses by number
 
@@ -110,3 +114,48 @@ module _ (m : Model) (c d : ℕ) (z : ℤ) (known : unknown m c ≡ false) (know
       wide : (b : Bool) → ltb widthLimit (length (join A B)) ≡ b → examine tables m (resolution c d z) ≡ joined m A B
       wide true e = rw e (resolution-24 tables m c d z known known′ held e)
       wide false e = calm (clashes (join A B)) refl e
+
+module _ (t : Tables) (s : State) (h : Holding t s) (c d : ℕ) (z : ℤ) {f g : Bool} (told : f ≡ isUnknown s c) (told′ : g ≡ isUnknown s d) where
+  abbrev E : Examined
+  E = examine tables (modelIn t s) (resolution c d z)
+
+  pub resolve-first : {r : Stepped} → f ≡ true → r ≡ record { state = s; answer = Refused 21 } → After t s E t r
+  resolve-first b e = after-refused t s h E (refusal 21) (resolution-first tables (modelIn t s) c d z (unknown-is t s h c told ∙ b)) e
+
+  module _ (known : f ≡ false) where
+    pub resolve-second : {r : Stepped} → g ≡ true → r ≡ record { state = s; answer = Refused 21 } → After t s E t r
+    resolve-second b e = after-refused t s h E (refusal 21) (resolution-second tables (modelIn t s) c d z (known-is t s h c told known) (unknown-is t s h d told′ ∙ b)) e
+
+    module _ (known′ : g ≡ false) {X Y : Clause} (isX : X ≡ stretch (entry (t .ends) (c - 1)) (entry (t .ends) c) (t .literals))
+        (isY : Y ≡ stretch (entry (t .ends) (d - 1)) (entry (t .ends) d) (t .literals)) {P Q : ℤ} (p : P ≡ literalIn z) (q : Q ≡ negℤ P) {a : Bool} (inX : a ≡ holds P X) where
+      X-is : X ≡ clauseAt (modelIn t s) c
+      X-is = ranged-clause t s h c told known isX
+
+      Y-is : Y ≡ clauseAt (modelIn t s) d
+      Y-is = ranged-clause t s h d told′ known′ isY
+
+      first-in : holds z (clauseAt (modelIn t s) c) ≡ a
+      first-in = in-clause t s h c told known X-is z (rw p at inX)
+
+      -- 22, if the test of the first or of the second clause fails
+      not-held : {r : Stepped} → (holds z (clauseAt (modelIn t s) c) && holds (negℤ z) (clauseAt (modelIn t s) d)) ≡ false → r ≡ record { state = s; answer = Refused 22 } → After t s E t r
+      not-held b e =
+          after-refused t s h E (refusal 22) (resolution-22 tables (modelIn t s) c d z (known-is t s h c told known) (known-is t s h d told′ known′) b) e
+
+      pub resolve-pivot : {r : Stepped} → not a ≡ true → r ≡ record { state = s; answer = Refused 22 } → After t s E t r
+      resolve-pivot b e = not-held (rw (first-in, not-true a b)) e
+
+      module _ (held : not a ≡ false) {b : Bool} (inY : b ≡ holds Q Y) where
+        P-is : P ≡ z
+        P-is = p ∙ in-clause-is t s h c told known X-is z (rw p at inX) (not-false a held)
+
+        second-in : holds (negℤ z) (clauseAt (modelIn t s) d) ≡ b
+        second-in = sym (inY ∙ rw (q, P-is, Y-is))
+
+        pub resolve-complement : {r : Stepped} → not b ≡ true → r ≡ record { state = s; answer = Refused 22 } → After t s E t r
+        resolve-complement k e = not-held (rw (second-in, not-true b k) (and-false (holds z (clauseAt (modelIn t s) c)))) e
+
+        pub resolve-joined : not b ≡ false → {A B : Clause} → A ≡ without P X → B ≡ without Q Y → E ≡ joined (modelIn t s) A B
+        resolve-joined k isA isB =
+            resolution-joined (modelIn t s) c d z (known-is t s h c told known) (known-is t s h d told′ known′) (rw (first-in, not-false a held, second-in, not-false b k))
+            ∙ rw (isA, isB, q, P-is, X-is, Y-is)

@@ -1,0 +1,53 @@
+// The three rules (document 01, "Step records"), each with its tests in order.
+use crate::Stepped;
+use crate::adding;
+use crate::clause;
+use crate::refusal;
+use clauses::held;
+use clauses::parts;
+use dqbf::literal;
+use tables::ClauseNumber;
+use tables::State;
+ghost use Rattle.dqbf.specs.Limits as Limits;
+ghost use Rattle.dqbf.specs.Record.{resolution};
+ghost use Rattle.dqbf.specs.Run.{examine};
+ghost use Rattle.tables.specs.Tables.{tablesOf, modelIn};
+ghost use Rattle.steps.specs.Adding.{Holding, After};
+
+// Resolution: 21, 22, 24, 23, 25.
+pub fn resolve(
+    first: ClauseNumber,
+    second: ClauseNumber,
+    pivot: i32,
+    literals: &mut [i16],
+    ends: &mut [u16],
+    sets: &[u64],
+    kinds: &[u8],
+    state: State,
+) -> Stepped
+    requires { ⌜ Holding (tablesOf (now literals) (now ends) (now sets) (now kinds)) state ⌝ }
+    ensures { λ r. ⌜ After (tablesOf (now (literals .entry)) (now (ends .entry)) (now (sets .entry)) (now (kinds .entry))) state
+        (examine Limits.tables (modelIn (tablesOf (now (literals .entry)) (now (ends .entry)) (now (sets .entry)) (now (kinds .entry))) state)
+        (resolution (first .0) (second .0) pivot))
+        (tablesOf (now (literals .exit)) (now (ends .exit)) (now (sets .entry)) (now (kinds .entry))) r ⌝ }
+{
+    if clause::is_unknown(state, first) {
+        return adding::refused(state, refusal::UNKNOWN_CLAUSE);
+    }
+    if clause::is_unknown(state, second) {
+        return adding::refused(state, refusal::UNKNOWN_CLAUSE);
+    }
+    let positive = literal::narrowed(pivot);
+    let negative = literal::negated(positive);
+    let x = clause::clause_at(literals, ends, first);
+    let y = clause::clause_at(literals, ends, second);
+    if !held::holds(x, positive) {
+        return adding::refused(state, refusal::NOT_IN_CLAUSE);
+    }
+    if !held::holds(y, negative) {
+        return adding::refused(state, refusal::NOT_IN_CLAUSE);
+    }
+    let left = parts::held_without(x, positive);
+    let right = parts::held_without(y, negative);
+    adding::add_join(left, right, literals, ends, sets, kinds, state)
+}
