@@ -1,28 +1,35 @@
 -- The three rules over tables that hold a model: clauses by number, and each test as the code comes to it, one law for each outcome.
 use mathlib.Core.Path.{_≡_, refl, sym, _∙_, ap}
-use mathlib.Core.Logic.{_⊎_, inl, inr}
+use mathlib.Core.Logic.{_≢_}
 use mathlib.Core.Bool.{Bool, true, false, cond, not, _&&_, _||_, true≢false}
-use mathlib.Core.List.{List}
+use mathlib.Core.List.{_++_}
 use Prim.Native.Nat.{ℕ, zero, suc, _+_, _-_, _≤_, _<_}
 use native.Mathlib.Omega.{arith}
+use borrow.Author.Tests.{eq-eqb, ne-eqb}
 use lib.Dec.{eqb, ltb}
 use lib.IntN.{ℤ, negℤ, natAbs}
-use lib.ListN.{length}
+use lib.ListN.{length, take}
 use Rattle.dqbf.specs.Limits.{tables, widthLimit, literalRange}
 use Rattle.dqbf.specs.Refusal.{refusal}
 use Rattle.dqbf.specs.Literal.{Clause, _∈_, literalIn, holds, without, join, clashes}
-use Rattle.dqbf.specs.Model.{Model, clauses, used}
-use Rattle.dqbf.specs.Record.{resolution}
-use Rattle.dqbf.specs.Rules.{unknown, clauseAt, noRoom, resolvent, resolving}
+use Rattle.dqbf.specs.Set.{Set}
+use Rattle.dqbf.specs.Model.{Model, clauses, used, kindOf, setOf}
+use Rattle.dqbf.specs.Record.{resolution, reduction}
+use Rattle.dqbf.specs.Rules.{unknown, clauseAt, noRoom, resolvent, resolving, reads, reducing}
 use Rattle.dqbf.specs.Run.{Examined, examine}
 use Rattle.dqbf.proofs.Laws.Tests.{or-no, eqb-same, ltb-no}
-use Rattle.dqbf.proofs.Laws.Outcomes.{resolution-first, resolution-second, resolution-22, resolution-24, resolution-23, resolution-25, resolution-accepted}
+use Rattle.dqbf.proofs.Laws.Clauses.{holds-in}
+use Rattle.dqbf.proofs.Laws.Outcomes.{resolution-first, resolution-second, resolution-22, resolution-24, resolution-23, resolution-25, resolution-accepted, reduction-21, reduction-22, reduction-26, reduction-27, reduction-25, reduction-accepted}
 use Rattle.tables.specs.Tables.{Tables, modelIn, stretch, entry}
 use Rattle.tables.specs.declared.State.{State}
+use Rattle.clauses.specs.Sets.{readsIn}
+use Rattle.clauses.proofs.Laws.Sets.{model-reads}
+use Rattle.tables.specs.Spread.{setRow}
 use Rattle.tables.proofs.Laws.Adding.{variable-count}
+use Rattle.tables.proofs.Laws.Held.{sets-is}
 use Rattle.tables.proofs.Laws.Formed.{long-is, formed-is}
 use Rattle.tables.proofs.Laws.Spread.{valid-held}
-use Rattle.tables.proofs.Laws.Entries.{unknown-told, range-rises, range-ends, range-narrow, clause-at, clause-there}
+use Rattle.tables.proofs.Laws.Entries.{unknown-told, range-rises, range-ends, range-narrow, clause-at, clause-there, kind-told, set-told, literal-in-use}
 use Rattle.steps.specs.Adding.{Holding, After, One, fitted, joined, isUnknown, Ranged}
 use Rattle.steps.specs.declared.Stepped.{Stepped}
 use Rattle.steps.specs.declared.StepAnswer.the-variants.{Refused}
@@ -88,6 +95,10 @@ module _ (t : Tables) (s : State) (h : Holding t s) where
     pub in-clause-is : {C : Clause} → C ≡ clauseAt (modelIn t s) c → (z : ℤ) {b : Bool} → b ≡ holds (literalIn z) C → b ≡ true → literalIn z ≡ z
     in-clause-is e z p q =
         pivot-is tables (modelIn t s) (valid-held t s (h .lent) (h .formed)) few-variables (clauseAt (modelIn t s) c) (clause-there t s (h .lent) (h .formed) c some low) z (rw e at (sym p ∙ q))
+
+    -- the variables of its literals are in use
+    pub clause-variable : (l : ℤ) → l ∈ clauseAt (modelIn t s) c → natAbs l ≤ s .variables .0
+    clause-variable l q = literal-in-use t s (h .lent) (h .formed) (clauseAt (modelIn t s) c) (clause-there t s (h .lent) (h .formed) c some low) l q
 
 -- ---- resolution: what is left of its tests behind 22 is the join's
 
@@ -159,3 +170,70 @@ module _ (t : Tables) (s : State) (h : Holding t s) (c d : ℕ) (z : ℤ) {f g :
         resolve-joined k isA isB =
             resolution-joined (modelIn t s) c d z (known-is t s h c told known) (known-is t s h d told′ known′) (rw (first-in, not-false a held, second-in, not-false b k))
             ∙ rw (isA, isB, q, P-is, X-is, Y-is)
+
+-- ---- universal reduction
+
+module _ (t : Tables) (s : State) (h : Holding t s) where
+  -- the sets of the variables in use are the model's
+  pub sets-are : take (s .variables .0) (t .sets) ≡ modelIn t s .sets ++ modelIn t s .forks
+  unfolding setRow
+  sets-are = sym (sets-is t s)
+
+module _ (t : Tables) (s : State) (h : Holding t s) (c : ℕ) (z : ℤ) {f : Bool} (told : f ≡ isUnknown s c) where
+  abbrev U : Examined
+  U = examine tables (modelIn t s) (reduction c z)
+
+  pub reduce-unknown : {r : Stepped} → f ≡ true → r ≡ record { state = s; answer = Refused 21 } → After t s U t r
+  reduce-unknown b e = after-refused t s h U (refusal 21) (reduction-21 tables (modelIn t s) c z (unknown-is t s h c told ∙ b)) e
+
+  module _ (known : f ≡ false) {X : Clause} (isX : X ≡ stretch (entry (t .ends) (c - 1)) (entry (t .ends) c) (t .literals)) {P : ℤ} (p : P ≡ literalIn z) {a : Bool}
+      (inX : a ≡ holds P X) where
+    C-is : X ≡ clauseAt (modelIn t s) c
+    C-is = ranged-clause t s h c told known isX
+
+    literal-in-clause : holds z (clauseAt (modelIn t s) c) ≡ a
+    literal-in-clause = in-clause t s h c told known C-is z (rw p at inX)
+
+    pub reduce-absent : {r : Stepped} → not a ≡ true → r ≡ record { state = s; answer = Refused 22 } → After t s U t r
+    reduce-absent b e =
+        after-refused t s h U (refusal 22) (reduction-22 tables (modelIn t s) c z (known-is t s h c told known) (literal-in-clause ∙ not-true a b)) e
+
+    module _ (held : not a ≡ false) where
+      L-is : P ≡ z
+      L-is = p ∙ in-clause-is t s h c told known C-is z (rw p at inX) (not-false a held)
+
+      there : holds z (clauseAt (modelIn t s) c) ≡ true
+      there = literal-in-clause ∙ not-false a held
+
+      -- its variable is in use
+      pub reduce-used : natAbs P ≤ s .variables .0
+      reduce-used = rw L-is (clause-variable t s h c told known z (holds-in z (clauseAt (modelIn t s) c) there))
+
+      module _ {k : ℕ} (isK : k ≡ entry (t .kinds) (natAbs P)) where
+        kind-is : kindOf (modelIn t s) (natAbs z) ≡ k
+        kind-is = sym (isK ∙ kind-told t s (h .lent) (h .formed) (natAbs P) reduce-used ∙ ap (λ (l : ℤ). kindOf (modelIn t s) (natAbs l)) L-is)
+
+        pub reduce-other : {r : Stepped} → k ≢ 1 → r ≡ record { state = s; answer = Refused 26 } → After t s U t r
+        reduce-other b e =
+            after-refused t s h U (refusal 26) (reduction-26 tables (modelIn t s) c z (known-is t s h c told known) there (rw kind-is (ne-eqb k 1 b))) e
+
+        module _ (universal : k ≡ 1) {w : Set} (isW : w ≡ entry (t .sets) (natAbs P)) {A : Clause} (isA : A ≡ without P X) {n : ℕ} (isN : n ≡ s .variables .0) {b : Bool}
+            (isRead : b ≡ readsIn (take n (t .sets)) w A) where
+          read-is : reads (modelIn t s) (setOf (modelIn t s) (natAbs z)) (without z (clauseAt (modelIn t s) c)) ≡ b
+          read-is = sym (isRead ∙ rw (isN, sets-are t s h, isW, set-told t s (h .lent) (h .formed) (natAbs P) reduce-used, isA, L-is, C-is) (model-reads (modelIn t s) (setOf (modelIn t s) (natAbs z)) (without z (clauseAt (modelIn t s) c))))
+
+          pub reduce-read : {r : Stepped} → b ≡ true → r ≡ record { state = s; answer = Refused 27 } → After t s U t r
+          reduce-read q e =
+              after-refused t s h U (refusal 27) (reduction-27 tables (modelIn t s) c z (known-is t s h c told known) there (rw kind-is (eq-eqb k 1 universal)) (read-is ∙ q)) e
+
+          pub reduce-fitted : b ≡ false → U ≡ fitted (modelIn t s) (One (without P X))
+          unfolding fitted reducing
+          reduce-fitted q = rw (L-is, C-is) (room (noRoom tables (modelIn t s) (reducing (clauseAt (modelIn t s) c) z)) refl)
+            where
+              u : eqb (kindOf (modelIn t s) (natAbs z)) 1 ≡ true
+              u = rw kind-is (eq-eqb k 1 universal)
+
+              room : (x : Bool) → noRoom tables (modelIn t s) (One (without z (clauseAt (modelIn t s) c))) ≡ x
+                  → U ≡ fitted (modelIn t s) (One (without z (clauseAt (modelIn t s) c)))
+              room true e = rw e (reduction-25 tables (modelIn t s) c z (known-is t s h c told known) there u (read-is ∙ q) e)
+              room false e = rw e (reduction-accepted tables (modelIn t s) c z (known-is t s h c told known) there u (read-is ∙ q) e)
