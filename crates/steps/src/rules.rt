@@ -5,11 +5,14 @@ use crate::clause;
 use crate::refusal;
 use clauses::held;
 use clauses::parts;
+use clauses::sets as dependencies;
 use dqbf::literal;
 use tables::ClauseNumber;
 use tables::State;
+use tables::VariableNumber;
+use tables::entries;
 ghost use Rattle.dqbf.specs.Limits as Limits;
-ghost use Rattle.dqbf.specs.Record.{resolution};
+ghost use Rattle.dqbf.specs.Record.{resolution, reduction};
 ghost use Rattle.dqbf.specs.Run.{examine};
 ghost use Rattle.tables.specs.Tables.{tablesOf, modelIn};
 ghost use Rattle.steps.specs.Adding.{Holding, After};
@@ -50,4 +53,42 @@ pub fn resolve(
     let left = parts::held_without(x, positive);
     let right = parts::held_without(y, negative);
     adding::add_join(left, right, literals, ends, sets, kinds, state)
+}
+
+// Universal reduction: 21, 22, 26, 27, 25.
+pub fn reduce(
+    number: ClauseNumber,
+    value: i32,
+    literals: &mut [i16],
+    ends: &mut [u16],
+    sets: &[u64],
+    kinds: &[u8],
+    state: State,
+) -> Stepped
+    requires { ⌜ Holding (tablesOf (now literals) (now ends) (now sets) (now kinds)) state ⌝ }
+    ensures { λ r. ⌜ After (tablesOf (now (literals .entry)) (now (ends .entry)) (now (sets .entry)) (now (kinds .entry))) state
+        (examine Limits.tables (modelIn (tablesOf (now (literals .entry)) (now (ends .entry)) (now (sets .entry)) (now (kinds .entry))) state)
+        (reduction (number .0) value))
+        (tablesOf (now (literals .exit)) (now (ends .exit)) (now (sets .entry)) (now (kinds .entry))) r ⌝ }
+{
+    if clause::is_unknown(state, number) {
+        return adding::refused(state, refusal::UNKNOWN_CLAUSE);
+    }
+    let reduced = literal::narrowed(value);
+    let x = clause::clause_at(literals, ends, number);
+    if !held::holds(x, reduced) {
+        return adding::refused(state, refusal::NOT_IN_CLAUSE);
+    }
+    let variable = VariableNumber(literal::variable_of(reduced) as u32);
+    if entries::kind_of(kinds, variable) != 1 {
+        return adding::refused(state, refusal::NOT_UNIVERSAL);
+    }
+    let set = entries::set_of(sets, variable);
+    let rest = parts::held_without(x, reduced);
+    let variables = state.variables;
+    let used = variables.0 as usize;
+    if dependencies::reads(rest, set, &sets[..used]) {
+        return adding::refused(state, refusal::READ_BY_ANOTHER);
+    }
+    adding::add_without(x, reduced, literals, ends, sets, kinds, state)
 }
