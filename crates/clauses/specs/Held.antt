@@ -1,5 +1,5 @@
 -- A clause by value: the first `length` of 32 entries.
--- Assumes nothing.
+-- Offers `clauseOf`.
 use lib.ListN.{take}
 use Rattle.dqbf.specs.Literal.{Clause}
 use Rattle.clauses.specs.declared.held.Held.{Held}

@@ -1,5 +1,5 @@
 -- The join of two clauses (dqbf's specs/Literal.antt): its next literal, and what is asked of it before it is written.
--- Assumes nothing.
+-- Offers `NextLiteral`, `summaryOf`.
 use mathlib.Core.Path.{_≡_}
 use mathlib.Core.List.{_∷_}
 use Prim.Native.Nat.{ℕ, _+_, _<_, _≤_}

@@ -1,6 +1,6 @@
 -- Sets of literals and clauses over the list of the variables' sets, as the table has them.
 -- The model's own (dqbf's specs/Model.antt, specs/Rules.antt) are these over `m .sets ++ m .forks` (proofs/Laws/Sets.antt).
--- Assumes nothing.
+-- Offers `setIn`, `clauseSetIn`, `readsIn`.
 use mathlib.Core.Bool.{Bool, false, _||_}
 use mathlib.Core.List.{List, [], _∷_}
 use Prim.Native.Nat.{ℕ, zero, suc}

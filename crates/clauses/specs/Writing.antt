@@ -1,5 +1,5 @@
 -- What a writer leaves (document 01, "A new clause is written into the literals behind the last used one").
--- Assumes nothing.
+-- Offers `Written`.
 use mathlib.Core.Path.{_≡_}
 use mathlib.Core.List.{List, _++_}
 use Prim.Native.Nat.{ℕ}

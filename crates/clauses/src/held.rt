@@ -6,29 +6,32 @@ ghost use Rattle.dqbf.specs.Limits.{widthLimit};
 ghost use Rattle.dqbf.specs.Literal as Literal;
 ghost use Rattle.clauses.specs.Held.{clauseOf};
 
+// The most literals that a clause may have.
+pub const WIDTH: usize = 32;
+
 // The clause is the first `length` entries; all 32 where `length` is greater.
 pub struct Held {
-    pub literals: [i16; 32],
+    pub literals: [i16; WIDTH],
     pub length: usize,
 }
 
 // How many literals a held clause has.
-pub fn width(x: Held) -> usize
-    ensures { λ r. ⌜ (r ≡ length (clauseOf x)) × (r ≤ widthLimit) ⌝ }
+pub fn width(clause: Held) -> usize
+    ensures { λ r. ⌜ (r ≡ length (clauseOf clause)) × (r ≤ widthLimit) ⌝ }
 {
-    if x.length > 32 {
-        return 32;
+    if clause.length > WIDTH {
+        return WIDTH;
     }
-    x.length
+    clause.length
 }
 
 // The first 32 literals of a stretch.
 pub fn copied(clause: &[i16]) -> Held
     ensures { λ r. ⌜ clauseOf r ≡ take widthLimit (now (clause .entry)) ⌝ }
 {
-    let mut entries = [0i16; 32];
+    let mut entries = [0i16; WIDTH];
     let mut count = 0;
-    while count < 32 {
+    while count < WIDTH {
         if count >= clause.len() {
             return Held {
                 literals: entries,
@@ -53,13 +56,13 @@ pub fn held_clause(literals: &[i16], start: usize, end: usize) -> Held
 }
 
 // Whether a literal stands in a held clause.
-pub fn holds(x: Held, literal: i16) -> bool
-    ensures { λ r. ⌜ r ≡ Literal.holds literal (clauseOf x) ⌝ }
+pub fn holds(clause: Held, literal: i16) -> bool
+    ensures { λ r. ⌜ r ≡ Literal.holds literal (clauseOf clause) ⌝ }
 {
-    let n = width(x);
+    let n = width(clause);
     let mut i = 0;
     while i < n {
-        let l = x.literals[i];
+        let l = clause.literals[i];
         if l == literal {
             return true;
         }

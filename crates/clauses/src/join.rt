@@ -29,21 +29,21 @@ pub struct Next {
 }
 
 // The next literal of the join, where `i` literals of the first clause and `j` of the second are joined and one at least is left.
-fn next_literal(x: Held, y: Held, i: usize, j: usize) -> Next
-    requires { ⌜ (i ≤ length (clauseOf x)) × (j ≤ length (clauseOf y)) × (i + j < length (clauseOf x) + length (clauseOf y)) ⌝ }
-    ensures { λ r. ⌜ NextLiteral (clauseOf x) (clauseOf y) i j r ⌝ }
+fn next_literal(first: Held, second: Held, i: usize, j: usize) -> Next
+    requires { ⌜ (i ≤ length (clauseOf first)) × (j ≤ length (clauseOf second)) × (i + j < length (clauseOf first) + length (clauseOf second)) ⌝ }
+    ensures { λ r. ⌜ NextLiteral (clauseOf first) (clauseOf second) i j r ⌝ }
 {
-    let n = held::width(x);
-    let m = held::width(y);
+    let n = held::width(first);
+    let m = held::width(second);
     if i >= n {
-        let k = y.literals[j];
+        let k = second.literals[j];
         return Next {
             literal: k,
             i,
             j: j + 1,
         };
     }
-    let l = x.literals[i];
+    let l = first.literals[i];
     if j >= m {
         return Next {
             literal: l,
@@ -51,7 +51,7 @@ fn next_literal(x: Held, y: Held, i: usize, j: usize) -> Next
             j,
         };
     }
-    let k = y.literals[j];
+    let k = second.literals[j];
     if l == k {
         return Next {
             literal: l,
@@ -74,16 +74,16 @@ fn next_literal(x: Held, y: Held, i: usize, j: usize) -> Next
 }
 
 // The join of two clauses, to the front of the tail; the number of its literals.
-pub fn write_join(tail: &mut [i16], x: Held, y: Held) -> usize
-    requires { ⌜ length (Literal.join (clauseOf x) (clauseOf y)) ≤ length (now tail) ⌝ }
-    ensures { λ r. ⌜ Written (Literal.join (clauseOf x) (clauseOf y)) (now (tail .entry)) (now (tail .exit)) r ⌝ }
+pub fn write_join(tail: &mut [i16], first: Held, second: Held) -> usize
+    requires { ⌜ length (Literal.join (clauseOf first) (clauseOf second)) ≤ length (now tail) ⌝ }
+    ensures { λ r. ⌜ Written (Literal.join (clauseOf first) (clauseOf second)) (now (tail .entry)) (now (tail .exit)) r ⌝ }
 {
-    let total = held::width(x) + held::width(y);
+    let total = held::width(first) + held::width(second);
     let mut i = 0;
     let mut j = 0;
     let mut count = 0;
     while i + j < total {
-        let next = next_literal(x, y, i, j);
+        let next = next_literal(first, second, i, j);
         let l = next.literal;
         tail[count] = l;
         i = next.i;
@@ -116,11 +116,11 @@ pub struct JoinSummary {
 }
 
 // The whole join is looked at, up to 64 literals.
-pub fn join_summary(x: Held, y: Held) -> JoinSummary
-    ensures { λ r. ⌜ r ≡ summaryOf (clauseOf x) (clauseOf y) ⌝ }
+pub fn join_summary(first: Held, second: Held) -> JoinSummary
+    ensures { λ r. ⌜ r ≡ summaryOf (clauseOf first) (clauseOf second) ⌝ }
 {
-    let mut joined = [0i16; 64];
-    let width = write_join(&mut joined, x, y);
+    let mut joined = [0i16; 2 * held::WIDTH];
+    let width = write_join(&mut joined, first, second);
     let clash = clashes(&joined[..width]);
     JoinSummary {
         width,

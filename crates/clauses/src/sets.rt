@@ -25,18 +25,18 @@ pub fn set_of(literal: i16, sets: &[u64]) -> u64
 }
 
 // The set of the literals that a mask picks: the union of theirs.
-pub fn part_set(x: Held, mask: u32, sets: &[u64]) -> u64
-    ensures { λ r. ⌜ r ≡ clauseSetIn (now (sets .entry)) (pick mask (clauseOf x)) ⌝ }
+pub fn part_set(clause: Held, mask: u32, sets: &[u64]) -> u64
+    ensures { λ r. ⌜ r ≡ clauseSetIn (now (sets .entry)) (pick mask (clauseOf clause)) ⌝ }
 {
-    let n = held::width(x);
+    let n = held::width(clause);
     let mut i = 0;
-    let mut left = mask;
+    let mut rest = mask;
     let mut set = 0;
     while i < n {
-        let l = x.literals[i];
+        let l = clause.literals[i];
         i += 1;
-        let picked = left % 2;
-        left = left / 2;
+        let picked = rest % 2;
+        rest = rest / 2;
         if picked == 1 {
             set = words::union(set, set_of(l, sets));
         }
@@ -45,13 +45,13 @@ pub fn part_set(x: Held, mask: u32, sets: &[u64]) -> u64
 }
 
 // Whether some literal's set contains a set.
-pub fn reads(x: Held, set: u64, sets: &[u64]) -> bool
-    ensures { λ r. ⌜ r ≡ readsIn (now (sets .entry)) set (clauseOf x) ⌝ }
+pub fn reads(clause: Held, set: u64, sets: &[u64]) -> bool
+    ensures { λ r. ⌜ r ≡ readsIn (now (sets .entry)) set (clauseOf clause) ⌝ }
 {
-    let n = held::width(x);
+    let n = held::width(clause);
     let mut i = 0;
     while i < n {
-        let l = x.literals[i];
+        let l = clause.literals[i];
         if words::inside(set, set_of(l, sets)) {
             return true;
         }

@@ -16,10 +16,10 @@ use Rattle.clauses.proofs.held.holds.Statement.{statement}
 use Rattle.clauses.proofs.held.holds.Tie as tie
 
 abbrev Inv-loop : tie.InvT-loop
-Inv-loop literal x n i₀ i = (i ≤ n) × (holds (toZ w16 literal) (clauseOf x) ≡ holds (toZ w16 literal) (drop i (clauseOf x)))
+Inv-loop literal clause n i₀ i = (i ≤ n) × (holds (toZ w16 literal) (clauseOf clause) ≡ holds (toZ w16 literal) (drop i (clauseOf clause)))
 
 abbrev μ-loop : tie.MeasureT-loop
-μ-loop literal x n i₀ i = n - i
+μ-loop literal clause n i₀ i = n - i
 
 width-requires : tie.Need-width-requires Inv-loop μ-loop
 width-requires c κs = search needs

@@ -8,13 +8,13 @@ use Rattle.clauses.proofs.held.width.Tie as tie
 
 returns : tie.Need-returns
 returns c =
-    let x = c .before .before .args .x in
+    let x = c .before .before .args .clause in
     let n : length (x .literals) ≡ 32 = search needs in
     (omega (arith, length-take (x .length) (x .literals)), omega arith)
 
 returns-2 : tie.Need-returns-2
 returns-2 c =
-    let x = c .before .before .args .x in
+    let x = c .before .before .args .clause in
     let n : length (x .literals) ≡ 32 = search needs in
     (omega (arith, length-take (x .length) (x .literals)), omega arith)
 

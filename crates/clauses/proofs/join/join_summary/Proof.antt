@@ -16,8 +16,8 @@ slice-aggregate-write-join c = search needs
 
 write-join-requires : tie.Need-write-join-requires
 write-join-requires c κs =
-    let x = c .before .args .x in
-    let y = c .before .args .y in
+    let x = c .before .args .first in
+    let y = c .before .args .second in
     let first : length (x .literals) ≡ 32 = search needs in
     let second : length (y .literals) ≡ 32 = search needs in
     omega (arith, join-short (clauseOf x) (clauseOf y), held-short x, held-short y)

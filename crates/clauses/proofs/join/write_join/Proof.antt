@@ -13,10 +13,10 @@ use Rattle.clauses.proofs.join.write_join.Statement.{statement}
 use Rattle.clauses.proofs.join.write_join.Tie as tie
 
 abbrev Inv-loop : tie.InvT-loop
-Inv-loop tail₀ x y total i₀ j₀ count₀ tail i j count = (i ≤ length (clauseOf x)) × (j ≤ length (clauseOf y)) × (count ≤ i + j) × Writing (join (clauseOf x) (clauseOf y)) tail₀ tail count (join (drop i (clauseOf x)) (drop j (clauseOf y)))
+Inv-loop tail₀ first second total i₀ j₀ count₀ tail i j count = (i ≤ length (clauseOf first)) × (j ≤ length (clauseOf second)) × (count ≤ i + j) × Writing (join (clauseOf first) (clauseOf second)) tail₀ tail count (join (drop i (clauseOf first)) (drop j (clauseOf second)))
 
 abbrev μ-loop : tie.MeasureT-loop
-μ-loop tail₀ x y total i₀ j₀ count₀ tail i j count = total - (i + j)
+μ-loop tail₀ first second total i₀ j₀ count₀ tail i j count = total - (i + j)
 
 width-requires : tie.Need-width-requires Inv-loop μ-loop
 width-requires c κs = search needs
@@ -58,8 +58,8 @@ same-length c = c .before .loop .inv .3 .same
 
 returns : tie.Need-returns Inv-loop μ-loop
 returns c =
-    let x = held-end (c .before .before .before .before .args .x) (c .before .loop .i) (omega arith) in
-    let y = held-end (c .before .before .before .before .args .y) (c .before .loop .j) (omega arith) in
+    let x = held-end (c .before .before .before .before .args .first) (c .before .loop .i) (omega arith) in
+    let y = held-end (c .before .before .before .before .args .second) (c .before .loop .j) (omega arith) in
     writing-done (c .before .loop .inv .3) (join-ends x y)
 
 pub write-join-spec : {M : Type 1} → statement M

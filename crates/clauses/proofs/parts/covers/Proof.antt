@@ -31,7 +31,7 @@ add-picked : tie.Need-add-picked Inv-loop μ-loop
 add-picked c = search needs
 
 returns : tie.Need-returns Inv-loop μ-loop
-returns c = sym (c .before .before .loop .inv .1 (clauseOf (c .before .before .before .before .args .x)) (omega arith) ∙ covers-missed _ _ (held-front (c .before .before .before .before .args .x) (c .before .before .loop .i) (omega arith)) (c .if1 .taken))
+returns c = sym (c .before .before .loop .inv .1 (clauseOf (c .before .before .before .before .args .clause)) (omega arith) ∙ covers-missed _ _ (held-front (c .before .before .before .before .args .clause) (c .before .before .loop .i) (omega arith)) (c .if1 .taken))
 
 loop-less : tie.Need-loop-less Inv-loop μ-loop
 loop-less c = search needs
@@ -40,10 +40,10 @@ loop-again : tie.Need-loop-again Inv-loop μ-loop
 loop-again c = (search needs, λ C e. c .before .before .loop .inv .1 C e ∙ covers-passed _ _ (list-front C (c .before .before .loop .i) (pos 0) (omega arith)) (c .if1 .left))
 
 returns-2 : tie.Need-returns-2 Inv-loop μ-loop
-returns-2 c = sym (c .before .before .loop .inv .1 (clauseOf (c .before .before .before .before .args .x)) (omega arith) ∙ covers-beyond _ _ (held-end (c .before .before .before .before .args .x) (c .before .before .loop .i) (omega arith)) (c .if2 .taken))
+returns-2 c = sym (c .before .before .loop .inv .1 (clauseOf (c .before .before .before .before .args .clause)) (omega arith) ∙ covers-beyond _ _ (held-end (c .before .before .before .before .args .clause) (c .before .before .loop .i) (omega arith)) (c .if2 .taken))
 
 returns-3 : tie.Need-returns-3 Inv-loop μ-loop
-returns-3 c = sym (c .before .before .loop .inv .1 (clauseOf (c .before .before .before .before .args .x)) (omega arith) ∙ covers-end _ _ (held-end (c .before .before .before .before .args .x) (c .before .before .loop .i) (omega arith)) (omega arith))
+returns-3 c = sym (c .before .before .loop .inv .1 (clauseOf (c .before .before .before .before .args .clause)) (omega arith) ∙ covers-end _ _ (held-end (c .before .before .before .before .args .clause) (c .before .before .loop .i) (omega arith)) (omega arith))
 
 pub covers-spec : {M : Type 1} → statement M
 covers-spec =

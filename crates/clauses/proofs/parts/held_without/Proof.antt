@@ -19,7 +19,7 @@ slice-aggregate-write-without c = search needs
 
 write-without-requires : tie.Need-write-without-requires
 write-without-requires c κs =
-    let x = c .before .args .x in
+    let x = c .before .args .clause in
     let entries : length (x .literals) ≡ 32 = search needs in
     omega (arith, without-short (toZ w16 (ofZ w16 (c .before .args .literal))) (clauseOf x), held-short x)
 

@@ -13,10 +13,10 @@ use Rattle.clauses.proofs.parts.part_length.Statement.{statement}
 use Rattle.clauses.proofs.parts.part_length.Tie as tie
 
 abbrev Inv-loop : tie.InvT-loop
-Inv-loop mask n i₀ count₀ left₀ i count left = (i ≤ n) × (count ≤ i) × ((C : Clause) → length C ≡ n → length (pick mask C) ≡ count + length (pick left (drop i C)))
+Inv-loop mask n i₀ count₀ rest₀ i count rest = (i ≤ n) × (count ≤ i) × ((C : Clause) → length C ≡ n → length (pick mask C) ≡ count + length (pick rest (drop i C)))
 
 abbrev μ-loop : tie.MeasureT-loop
-μ-loop mask n i₀ count₀ left₀ i count left = n - i
+μ-loop mask n i₀ count₀ rest₀ i count rest = n - i
 
 width-requires : tie.Need-width-requires Inv-loop μ-loop
 width-requires c κs = search needs
@@ -34,18 +34,18 @@ loop-less : tie.Need-loop-less Inv-loop μ-loop
 loop-less c = search needs
 
 loop-again : tie.Need-loop-again Inv-loop μ-loop
-loop-again c = (search needs, search needs, λ C e. omega (arith, c .before .before .loop .inv .2 C e, ap length (pick-taken (c .before .before .loop .left) (list-front C (c .before .before .loop .i) (pos 0) (omega arith)) (c .if1 .taken))))
+loop-again c = (search needs, search needs, λ C e. omega (arith, c .before .before .loop .inv .2 C e, ap length (pick-taken (c .before .before .loop .rest) (list-front C (c .before .before .loop .i) (pos 0) (omega arith)) (c .if1 .taken))))
 
 loop-less-2 : tie.Need-loop-less-2 Inv-loop μ-loop
 loop-less-2 c = search needs
 
 loop-again-2 : tie.Need-loop-again-2 Inv-loop μ-loop
-loop-again-2 c = (search needs, search needs, λ C e. c .before .before .loop .inv .2 C e ∙ rw (pick-passed (c .before .before .loop .left) (list-front C (c .before .before .loop .i) (pos 0) (omega arith)) (c .if1 .left)))
+loop-again-2 c = (search needs, search needs, λ C e. c .before .before .loop .inv .2 C e ∙ rw (pick-passed (c .before .before .loop .rest) (list-front C (c .before .before .loop .i) (pos 0) (omega arith)) (c .if1 .left)))
 
 returns : tie.Need-returns Inv-loop μ-loop
 returns c =
-    let C = clauseOf (c .before .before .before .args .x) in
-    omega (arith, c .before .loop .inv .2 C (omega arith), ap length (pick-end (c .before .loop .left) (held-end (c .before .before .before .args .x) (c .before .loop .i) (omega arith))))
+    let C = clauseOf (c .before .before .before .args .clause) in
+    omega (arith, c .before .loop .inv .2 C (omega arith), ap length (pick-end (c .before .loop .rest) (held-end (c .before .before .before .args .clause) (c .before .loop .i) (omega arith))))
 
 pub part-length-spec : {M : Type 1} → statement M
 part-length-spec =

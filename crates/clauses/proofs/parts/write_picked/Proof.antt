@@ -13,10 +13,10 @@ use Rattle.clauses.proofs.parts.write_picked.Statement.{statement}
 use Rattle.clauses.proofs.parts.write_picked.Tie as tie
 
 abbrev Inv-loop : tie.InvT-loop
-Inv-loop tail₀ mask x n i₀ count₀ left₀ tail i count left = (i ≤ n) × (count ≤ i) × Writing (pick mask (clauseOf x)) tail₀ tail count (pick left (drop i (clauseOf x)))
+Inv-loop tail₀ mask clause n i₀ count₀ rest₀ tail i count rest = (i ≤ n) × (count ≤ i) × Writing (pick mask (clauseOf clause)) tail₀ tail count (pick rest (drop i (clauseOf clause)))
 
 abbrev μ-loop : tie.MeasureT-loop
-μ-loop tail₀ mask x n i₀ count₀ left₀ tail i count left = n - i
+μ-loop tail₀ mask clause n i₀ count₀ rest₀ tail i count rest = n - i
 
 width-requires : tie.Need-width-requires Inv-loop μ-loop
 width-requires c κs = search needs

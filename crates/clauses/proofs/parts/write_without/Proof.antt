@@ -17,10 +17,10 @@ use Rattle.clauses.proofs.parts.write_without.Statement.{statement}
 use Rattle.clauses.proofs.parts.write_without.Tie as tie
 
 abbrev Inv-loop : tie.InvT-loop
-Inv-loop tail₀ literal x n i₀ count₀ tail i count = (i ≤ n) × (count ≤ i) × Writing (without (toZ w16 literal) (clauseOf x)) tail₀ tail count (without (toZ w16 literal) (drop i (clauseOf x)))
+Inv-loop tail₀ literal clause n i₀ count₀ tail i count = (i ≤ n) × (count ≤ i) × Writing (without (toZ w16 literal) (clauseOf clause)) tail₀ tail count (without (toZ w16 literal) (drop i (clauseOf clause)))
 
 abbrev μ-loop : tie.MeasureT-loop
-μ-loop tail₀ literal x n i₀ count₀ tail i count = n - i
+μ-loop tail₀ literal clause n i₀ count₀ tail i count = n - i
 
 width-requires : tie.Need-width-requires Inv-loop μ-loop
 width-requires c κs = search needs

@@ -16,10 +16,10 @@ use Rattle.clauses.proofs.sets.part_set.Statement.{statement}
 use Rattle.clauses.proofs.sets.part_set.Tie as tie
 
 abbrev Inv-loop : tie.InvT-loop
-Inv-loop mask sets x n i₀ left₀ set₀ i left set = (i ≤ n) × (clauseSetIn sets (pick mask (clauseOf x)) ≡ union set (clauseSetIn sets (pick left (drop i (clauseOf x)))))
+Inv-loop mask sets clause n i₀ rest₀ set₀ i rest set = (i ≤ n) × (clauseSetIn sets (pick mask (clauseOf clause)) ≡ union set (clauseSetIn sets (pick rest (drop i (clauseOf clause)))))
 
 abbrev μ-loop : tie.MeasureT-loop
-μ-loop mask sets x n i₀ left₀ set₀ i left set = n - i
+μ-loop mask sets clause n i₀ rest₀ set₀ i rest set = n - i
 
 width-requires : tie.Need-width-requires Inv-loop μ-loop
 width-requires c κs = search needs
@@ -47,7 +47,7 @@ loop-less c = search needs
 
 loop-again : tie.Need-loop-again Inv-loop μ-loop
 loop-again c =
-    let taken = pick-taken (c .before .before .before .before .before .loop .left) (held-front (c .before .before .before .before .before .before .before .before .args .t1) (c .before .before .before .before .before .loop .i) (omega arith)) (c .before .before .if1 .taken) in
+    let taken = pick-taken (c .before .before .before .before .before .loop .rest) (held-front (c .before .before .before .before .before .before .before .before .args .t1) (c .before .before .before .before .before .loop .i) (omega arith)) (c .before .before .if1 .taken) in
     (search needs, c .before .before .before .before .before .loop .inv .1 ∙ set-more _ taken (c .before .before .before .l .given) (c .before .set-of .ensures) (c .before .before .before .before .before .loop .set) (c .union .ensures))
 
 loop-less-2 : tie.Need-loop-less-2 Inv-loop μ-loop
@@ -55,7 +55,7 @@ loop-less-2 c = search needs
 
 loop-again-2 : tie.Need-loop-again-2 Inv-loop μ-loop
 loop-again-2 c =
-    let passed = pick-passed (c .before .before .before .loop .left) (held-front (c .before .before .before .before .before .before .args .t1) (c .before .before .before .loop .i) (omega arith)) (c .if1 .left) in
+    let passed = pick-passed (c .before .before .before .loop .rest) (held-front (c .before .before .before .before .before .before .args .t1) (c .before .before .before .loop .i) (omega arith)) (c .if1 .left) in
     (search needs, rw passed at (c .before .before .before .loop .inv .1))
 
 returns : tie.Need-returns Inv-loop μ-loop

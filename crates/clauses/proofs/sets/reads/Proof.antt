@@ -12,10 +12,10 @@ use Rattle.clauses.proofs.sets.reads.Statement.{statement}
 use Rattle.clauses.proofs.sets.reads.Tie as tie
 
 abbrev Inv-loop : tie.InvT-loop
-Inv-loop set sets x n i₀ i = (i ≤ n) × (readsIn sets set (clauseOf x) ≡ readsIn sets set (drop i (clauseOf x)))
+Inv-loop set sets clause n i₀ i = (i ≤ n) × (readsIn sets set (clauseOf clause) ≡ readsIn sets set (drop i (clauseOf clause)))
 
 abbrev μ-loop : tie.MeasureT-loop
-μ-loop set sets x n i₀ i = n - i
+μ-loop set sets clause n i₀ i = n - i
 
 width-requires : tie.Need-width-requires Inv-loop μ-loop
 width-requires c κs = search needs
