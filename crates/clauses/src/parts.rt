@@ -7,6 +7,7 @@ ghost use mathlib.Core.List.{[], _∷_, _++_};
 ghost use Prim.Native.Nat.{_+_, _<_, _≤_};
 ghost use lib.IntN.{natAbs, negℤ};
 ghost use lib.ListN.{length};
+ghost use Rattle.dqbf.specs.Limits.{widthLimit};
 ghost use Rattle.dqbf.specs.Literal as Literal;
 ghost use Rattle.clauses.specs.Held.{clauseOf};
 ghost use Rattle.clauses.specs.Writing.{Written};
@@ -92,7 +93,7 @@ pub fn write_fork(tail: &mut [i16], clause: Held, left: u32, right: u32, variabl
 
 // How many literals a mask picks.
 pub fn part_length(clause: Held, mask: u32) -> usize
-    ensures { λ r. ⌜ r ≡ length (Literal.pick mask (clauseOf clause)) ⌝ }
+    ensures { λ r. ⌜ (r ≡ length (Literal.pick mask (clauseOf clause))) × (r ≤ widthLimit) ⌝ }
 {
     let n = held::width(clause);
     let mut i = 0;

@@ -92,3 +92,38 @@ pub fn add_without(
         answer,
     }
 }
+
+// The two parts of a fork as new clauses, with the new variable, whose set is given.
+pub fn add_parts(
+    x: Held,
+    left: u32,
+    right: u32,
+    set: u64,
+    literals: &mut [i16],
+    ends: &mut [u16],
+    sets: &mut [u64],
+    kinds: &mut [u8],
+    state: State,
+) -> Stepped
+    requires { ⌜ Holding (tablesOf (now literals) (now ends) (now sets) (now kinds)) state ⌝ }
+    ensures { λ r. ⌜ After (tablesOf (now (literals .entry)) (now (ends .entry)) (now (sets .entry)) (now (kinds .entry))) state
+        (fitted (modelIn (tablesOf (now (literals .entry)) (now (ends .entry)) (now (sets .entry)) (now (kinds .entry))) state)
+        (Two (pick left (clauseOf x) ++ (pos (suc (state .variables .0)) ∷ [])) (pick right (clauseOf x) ++ (negsuc (state .variables .0) ∷ [])) set))
+        (tablesOf (now (literals .exit)) (now (ends .exit)) (now (sets .exit)) (now (kinds .exit))) r ⌝ }
+{
+    let first = parts::part_length(x, left) + 1;
+    let second = parts::part_length(x, right) + 1;
+    if adding::is_full(state, 2, (first + second) as u32, 1) {
+        return refused(state, refusal::NO_ROOM);
+    }
+    let variables = state.variables;
+    let variable = (variables.0 + 1) as i16;
+    let place = state.literals as usize;
+    parts::write_fork(&mut literals[place..], x, left, right, variable);
+    let next = adding::add_fork(ends, sets, kinds, state, first as u16, second as u16, set);
+    let answer = StepAnswer::Accepted;
+    Stepped {
+        state: next,
+        answer,
+    }
+}

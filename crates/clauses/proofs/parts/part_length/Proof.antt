@@ -44,8 +44,10 @@ loop-again-2 c = (search needs, search needs, λ C e. c .before .before .loop .i
 
 returns : tie.Need-returns Inv-loop μ-loop
 returns c =
-    let C = clauseOf (c .before .before .before .args .clause) in
-    omega (arith, c .before .loop .inv .2 C (omega arith), ap length (pick-end (c .before .loop .rest) (held-end (c .before .before .before .args .clause) (c .before .loop .i) (omega arith))))
+    let C = clauseOf (c .before .before .before .args .clause) in (
+      omega (arith, c .before .loop .inv .2 C (omega arith), ap length (pick-end (c .before .loop .rest) (held-end (c .before .before .before .args .clause) (c .before .loop .i) (omega arith)))),
+      omega (arith, c .before .loop .inv .0, c .before .loop .inv .1, c .before .before .width .ensures .1),
+    )
 
 pub part-length-spec : {M : Type 1} → statement M
 part-length-spec =
