@@ -7,12 +7,13 @@ use clauses::held;
 use clauses::parts;
 use clauses::sets as dependencies;
 use dqbf::literal;
+use dqbf::sets as words;
 use tables::ClauseNumber;
 use tables::State;
 use tables::VariableNumber;
 use tables::entries;
 ghost use Rattle.dqbf.specs.Limits as Limits;
-ghost use Rattle.dqbf.specs.Record.{resolution, reduction};
+ghost use Rattle.dqbf.specs.Record as Record;
 ghost use Rattle.dqbf.specs.Run.{examine};
 ghost use Rattle.tables.specs.Tables.{tablesOf, modelIn};
 ghost use Rattle.steps.specs.Adding.{Holding, After};
@@ -31,7 +32,7 @@ pub fn resolve(
     requires { ⌜ Holding (tablesOf (now literals) (now ends) (now sets) (now kinds)) state ⌝ }
     ensures { λ r. ⌜ After (tablesOf (now (literals .entry)) (now (ends .entry)) (now (sets .entry)) (now (kinds .entry))) state
         (examine Limits.tables (modelIn (tablesOf (now (literals .entry)) (now (ends .entry)) (now (sets .entry)) (now (kinds .entry))) state)
-        (resolution (first .0) (second .0) pivot))
+        (Record.resolution (first .0) (second .0) pivot))
         (tablesOf (now (literals .exit)) (now (ends .exit)) (now (sets .entry)) (now (kinds .entry))) r ⌝ }
 {
     if clause::is_unknown(state, first) {
@@ -68,7 +69,7 @@ pub fn reduce(
     requires { ⌜ Holding (tablesOf (now literals) (now ends) (now sets) (now kinds)) state ⌝ }
     ensures { λ r. ⌜ After (tablesOf (now (literals .entry)) (now (ends .entry)) (now (sets .entry)) (now (kinds .entry))) state
         (examine Limits.tables (modelIn (tablesOf (now (literals .entry)) (now (ends .entry)) (now (sets .entry)) (now (kinds .entry))) state)
-        (reduction (number .0) value))
+        (Record.reduction (number .0) value))
         (tablesOf (now (literals .exit)) (now (ends .exit)) (now (sets .entry)) (now (kinds .entry))) r ⌝ }
 {
     if clause::is_unknown(state, number) {
@@ -91,4 +92,42 @@ pub fn reduce(
         return adding::refused(state, refusal::READ_BY_ANOTHER);
     }
     adding::add_without(x, reduced, literals, ends, sets, kinds, state)
+}
+
+// Fork: 21, 28, 29, 25.
+pub fn fork(
+    number: ClauseNumber,
+    left: u32,
+    right: u32,
+    literals: &mut [i16],
+    ends: &mut [u16],
+    sets: &mut [u64],
+    kinds: &mut [u8],
+    state: State,
+) -> Stepped
+    requires { ⌜ Holding (tablesOf (now literals) (now ends) (now sets) (now kinds)) state ⌝ }
+    ensures { λ r. ⌜ After (tablesOf (now (literals .entry)) (now (ends .entry)) (now (sets .entry)) (now (kinds .entry))) state
+        (examine Limits.tables (modelIn (tablesOf (now (literals .entry)) (now (ends .entry)) (now (sets .entry)) (now (kinds .entry))) state)
+        (Record.fork (number .0) left right))
+        (tablesOf (now (literals .exit)) (now (ends .exit)) (now (sets .exit)) (now (kinds .exit))) r ⌝ }
+{
+    if clause::is_unknown(state, number) {
+        return adding::refused(state, refusal::UNKNOWN_CLAUSE);
+    }
+    let x = clause::clause_at(literals, ends, number);
+    if !parts::covers(x, left, right) {
+        return adding::refused(state, refusal::MASKS);
+    }
+    let variables = state.variables;
+    let used = variables.0 as usize;
+    let first = dependencies::part_set(x, left, &sets[..used]);
+    let second = dependencies::part_set(x, right, &sets[..used]);
+    if words::inside(first, second) {
+        return adding::refused(state, refusal::COMPARABLE);
+    }
+    if words::inside(second, first) {
+        return adding::refused(state, refusal::COMPARABLE);
+    }
+    let set = words::common(first, second);
+    adding::add_parts(x, left, right, set, literals, ends, sets, kinds, state)
 }

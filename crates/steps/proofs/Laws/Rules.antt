@@ -2,35 +2,35 @@
 use mathlib.Core.Path.{_≡_, refl, sym, _∙_, ap}
 use mathlib.Core.Logic.{_≢_}
 use mathlib.Core.Bool.{Bool, true, false, cond, not, _&&_, _||_, true≢false}
-use mathlib.Core.List.{_++_}
+use mathlib.Core.List.{[], _∷_, _++_}
 use Prim.Native.Nat.{ℕ, zero, suc, _+_, _-_, _≤_, _<_}
 use native.Mathlib.Omega.{arith}
 use borrow.Author.Tests.{eq-eqb, ne-eqb}
 use lib.Dec.{eqb, ltb}
-use lib.IntN.{ℤ, negℤ, natAbs}
+use lib.IntN.{ℤ, pos, negsuc, negℤ, natAbs}
 use lib.ListN.{length, take}
 use Rattle.dqbf.specs.Limits.{tables, widthLimit, literalRange}
 use Rattle.dqbf.specs.Refusal.{refusal}
-use Rattle.dqbf.specs.Literal.{Clause, _∈_, literalIn, holds, without, join, clashes}
-use Rattle.dqbf.specs.Set.{Set}
-use Rattle.dqbf.specs.Model.{Model, clauses, used, kindOf, setOf}
-use Rattle.dqbf.specs.Record.{resolution, reduction}
-use Rattle.dqbf.specs.Rules.{unknown, clauseAt, noRoom, resolvent, resolving, reads, reducing}
+use Rattle.dqbf.specs.Literal.{Clause, _∈_, literalIn, holds, without, join, clashes, pick, covers}
+use Rattle.dqbf.specs.Set.{Set, inside, common}
+use Rattle.dqbf.specs.Model.{Model, clauses, used, kindOf, setOf, clauseSet}
+use Rattle.dqbf.specs.Record.{resolution, reduction, fork}
+use Rattle.dqbf.specs.Rules.{unknown, clauseAt, noRoom, resolvent, resolving, reads, reducing, forking}
 use Rattle.dqbf.specs.Run.{Examined, examine}
-use Rattle.dqbf.proofs.Laws.Tests.{or-no, eqb-same, ltb-no}
+use Rattle.dqbf.proofs.Laws.Tests.{or-no, or-left, or-right, no-or, eqb-same, ltb-no}
 use Rattle.dqbf.proofs.Laws.Clauses.{holds-in}
-use Rattle.dqbf.proofs.Laws.Outcomes.{resolution-first, resolution-second, resolution-22, resolution-24, resolution-23, resolution-25, resolution-accepted, reduction-21, reduction-22, reduction-26, reduction-27, reduction-25, reduction-accepted}
+use Rattle.dqbf.proofs.Laws.Outcomes.{resolution-first, resolution-second, resolution-22, resolution-24, resolution-23, resolution-25, resolution-accepted, reduction-21, reduction-22, reduction-26, reduction-27, reduction-25, reduction-accepted, fork-21, fork-28, fork-29, fork-25, fork-accepted}
 use Rattle.tables.specs.Tables.{Tables, modelIn, stretch, entry}
 use Rattle.tables.specs.declared.State.{State}
-use Rattle.clauses.specs.Sets.{readsIn}
-use Rattle.clauses.proofs.Laws.Sets.{model-reads}
+use Rattle.clauses.specs.Sets.{readsIn, clauseSetIn}
+use Rattle.clauses.proofs.Laws.Sets.{model-reads, model-clause-set}
 use Rattle.tables.specs.Spread.{setRow}
 use Rattle.tables.proofs.Laws.Adding.{variable-count}
 use Rattle.tables.proofs.Laws.Held.{sets-is}
 use Rattle.tables.proofs.Laws.Formed.{long-is, formed-is}
 use Rattle.tables.proofs.Laws.Spread.{valid-held}
 use Rattle.tables.proofs.Laws.Entries.{unknown-told, range-rises, range-ends, range-narrow, clause-at, clause-there, kind-told, set-told, literal-in-use}
-use Rattle.steps.specs.Adding.{Holding, After, One, fitted, joined, isUnknown, Ranged}
+use Rattle.steps.specs.Adding.{Holding, After, One, Two, fitted, joined, isUnknown, Ranged}
 use Rattle.steps.specs.declared.Stepped.{Stepped}
 use Rattle.steps.specs.declared.StepAnswer.the-variants.{Refused}
 use Rattle.steps.proofs.Laws.Adding.{after-refused, joined-24, joined-23, joined-fitted, fitted-25, fitted-accepted}
@@ -237,3 +237,66 @@ module _ (t : Tables) (s : State) (h : Holding t s) (c : ℕ) (z : ℤ) {f : Boo
                   → U ≡ fitted (modelIn t s) (One (without z (clauseAt (modelIn t s) c)))
               room true e = rw e (reduction-25 tables (modelIn t s) c z (known-is t s h c told known) there u (read-is ∙ q) e)
               room false e = rw e (reduction-accepted tables (modelIn t s) c z (known-is t s h c told known) there u (read-is ∙ q) e)
+
+-- ---- fork
+
+module _ (t : Tables) (s : State) (h : Holding t s) (c left right : ℕ) {f : Bool} (told : f ≡ isUnknown s c) where
+  abbrev K : Examined
+  K = examine tables (modelIn t s) (fork c left right)
+
+  pub fork-unknown : {r : Stepped} → f ≡ true → r ≡ record { state = s; answer = Refused 21 } → After t s K t r
+  fork-unknown b e = after-refused t s h K (refusal 21) (fork-21 tables (modelIn t s) c left right (unknown-is t s h c told ∙ b)) e
+
+  module _ (known : f ≡ false) {X : Clause} (isX : X ≡ stretch (entry (t .ends) (c - 1)) (entry (t .ends) c) (t .literals)) {a : Bool} (covered : a ≡ covers left right X) where
+    X-clause : X ≡ clauseAt (modelIn t s) c
+    X-clause = ranged-clause t s h c told known isX
+
+    covers-is : covers left right (clauseAt (modelIn t s) c) ≡ a
+    covers-is = sym (covered ∙ rw X-clause)
+
+    pub fork-masks : {r : Stepped} → not a ≡ true → r ≡ record { state = s; answer = Refused 28 } → After t s K t r
+    fork-masks b e = after-refused t s h K (refusal 28) (fork-28 tables (modelIn t s) c left right (known-is t s h c told known) (covers-is ∙ not-true a b)) e
+
+    module _ (whole : not a ≡ false) {n : ℕ} (isN : n ≡ s .variables .0) {x y : Set} (isLeft : x ≡ clauseSetIn (take n (t .sets)) (pick left X))
+        (isRight : y ≡ clauseSetIn (take n (t .sets)) (pick right X)) {p q : Bool} (lies : p ≡ inside x y) (around : q ≡ inside y x) where
+      left-set : clauseSet (modelIn t s) (pick left (clauseAt (modelIn t s) c)) ≡ x
+      left-set = sym (isLeft ∙ rw (isN, sets-are t s h, X-clause) (model-clause-set (modelIn t s) (pick left (clauseAt (modelIn t s) c))))
+
+      right-set : clauseSet (modelIn t s) (pick right (clauseAt (modelIn t s) c)) ≡ y
+      right-set = sym (isRight ∙ rw (isN, sets-are t s h, X-clause) (model-clause-set (modelIn t s) (pick right (clauseAt (modelIn t s) c))))
+
+      compared : (inside (clauseSet (modelIn t s) (pick left (clauseAt (modelIn t s) c))) (clauseSet (modelIn t s) (pick right (clauseAt (modelIn t s) c)))
+          || inside (clauseSet (modelIn t s) (pick right (clauseAt (modelIn t s) c))) (clauseSet (modelIn t s) (pick left (clauseAt (modelIn t s) c)))) ≡ (p || q)
+      compared = rw (left-set, right-set, lies, around)
+
+      covered-whole : covers left right (clauseAt (modelIn t s) c) ≡ true
+      covered-whole = covers-is ∙ not-false a whole
+
+      comparable : {r : Stepped} → (p || q) ≡ true → r ≡ record { state = s; answer = Refused 29 } → After t s K t r
+      comparable b e =
+          after-refused t s h K (refusal 29) (fork-29 tables (modelIn t s) c left right (known-is t s h c told known) covered-whole (compared ∙ b)) e
+
+      pub fork-inside : {r : Stepped} → p ≡ true → r ≡ record { state = s; answer = Refused 29 } → After t s K t r
+      fork-inside b e = comparable (or-left p q b) e
+
+      pub fork-around : {r : Stepped} → q ≡ true → r ≡ record { state = s; answer = Refused 29 } → After t s K t r
+      fork-around b e = comparable (or-right p q b) e
+
+      pub fork-fitted : p ≡ false → q ≡ false → {w : Set} → w ≡ common x y
+          → K ≡ fitted (modelIn t s) (Two (pick left X ++ (pos (suc (s .variables .0)) ∷ [])) (pick right X ++ (negsuc (s .variables .0) ∷ [])) w)
+      unfolding fitted forking
+      fork-fitted u v isW =
+          room (noRoom tables (modelIn t s) (forking (modelIn t s) (pick left (clauseAt (modelIn t s) c)) (pick right (clauseAt (modelIn t s) c)))) refl
+          ∙ ap (λ (k : ℕ). fitted (modelIn t s) (Two (pick left (clauseAt (modelIn t s) c) ++ (pos (suc k) ∷ [])) (pick right (clauseAt (modelIn t s) c) ++ (negsuc k ∷ []))
+          (common (clauseSet (modelIn t s) (pick left (clauseAt (modelIn t s) c))) (clauseSet (modelIn t s) (pick right (clauseAt (modelIn t s) c))))))
+          (variable-count t s (h .lent) (h .formed))
+          ∙ rw (isW, left-set, right-set, X-clause)
+        where
+          apart : (inside (clauseSet (modelIn t s) (pick left (clauseAt (modelIn t s) c))) (clauseSet (modelIn t s) (pick right (clauseAt (modelIn t s) c)))
+              || inside (clauseSet (modelIn t s) (pick right (clauseAt (modelIn t s) c))) (clauseSet (modelIn t s) (pick left (clauseAt (modelIn t s) c)))) ≡ false
+          apart = compared ∙ no-or p q u v
+
+          room : (k : Bool) → noRoom tables (modelIn t s) (forking (modelIn t s) (pick left (clauseAt (modelIn t s) c)) (pick right (clauseAt (modelIn t s) c))) ≡ k
+              → K ≡ fitted (modelIn t s) (forking (modelIn t s) (pick left (clauseAt (modelIn t s) c)) (pick right (clauseAt (modelIn t s) c)))
+          room true e = rw e (fork-25 tables (modelIn t s) c left right (known-is t s h c told known) covered-whole apart e)
+          room false e = rw e (fork-accepted tables (modelIn t s) c left right (known-is t s h c told known) covered-whole apart e)
