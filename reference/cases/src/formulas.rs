@@ -1,0 +1,275 @@
+//! Random valid formulas, and the formulas printed in the sources: 002, section
+//! 5, and in 000 Theorem 2 and the families F and G.
+
+use crate::draft::{Draft, Prefix};
+use crate::random::Random;
+
+/// How large a random formula may be.
+#[derive(Clone, Copy, Debug)]
+pub struct Size {
+    pub universals: (usize, usize),
+    pub existentials: (usize, usize),
+    pub clauses: (usize, usize),
+    pub width: (usize, usize),
+    /// Existential literals that a clause has at least, as far as there are any.
+    pub least: usize,
+}
+
+/// Small enough to be decided by meaning; often refuted by a single step.
+pub const TINY: Size = Size {
+    universals: (0, 3),
+    existentials: (1, 3),
+    clauses: (1, 8),
+    width: (0, 3),
+    least: 0,
+};
+
+/// Small enough to be decided by meaning.
+pub const SMALL: Size = Size {
+    universals: (1, 3),
+    existentials: (2, 4),
+    clauses: (3, 16),
+    width: (1, 4),
+    least: 1,
+};
+
+/// Small, and with clauses that fork.
+pub const FORKED: Size = Size {
+    universals: (2, 3),
+    existentials: (2, 4),
+    clauses: (6, 18),
+    width: (2, 4),
+    least: 2,
+};
+
+/// No universal: a propositional formula.
+pub const PROPOSITIONAL: Size = Size {
+    universals: (0, 0),
+    existentials: (2, 6),
+    clauses: (6, 28),
+    width: (1, 3),
+    least: 1,
+};
+
+pub const MEDIUM: Size = Size {
+    universals: (2, 12),
+    existentials: (4, 20),
+    clauses: (10, 50),
+    width: (2, 6),
+    least: 2,
+};
+
+/// Clauses near the greatest width.
+pub const WIDE: Size = Size {
+    universals: (8, 40),
+    existentials: (20, 60),
+    clauses: (4, 20),
+    width: (8, 32),
+    least: 2,
+};
+
+/// Numbers of two digits, so that many literals fit into a text.
+pub const CROWDED: Size = Size {
+    universals: (10, 20),
+    existentials: (20, 40),
+    clauses: (10, 30),
+    width: (2, 32),
+    least: 2,
+};
+
+/// A random formula within a size; some variables below V stay undeclared.
+pub fn random_formula(random: &mut Random, size: Size) -> Draft {
+    let universals = random.between(size.universals.0, size.universals.1);
+    let existentials = random.between(size.existentials.0, size.existentials.1);
+    let declared = universals + existentials;
+    let spare = if random.chance(30) {
+        random.below(4)
+    } else {
+        0
+    };
+    let mut numbers: Vec<u32> = (1..=(declared + spare) as u32).collect();
+    if random.chance(50) {
+        random.shuffle(&mut numbers);
+    }
+    let (universals, rest) = numbers.split_at(universals);
+    let existentials = &rest[..existentials];
+    let prefix = random_prefix(random, universals, existentials);
+    let count = random.between(size.clauses.0, size.clauses.1);
+    let clauses = (0..count).map(|_| random_clause(random, universals, existentials, size));
+    Draft {
+        variables: declared + spare,
+        prefix,
+        clauses: clauses.collect(),
+    }
+}
+
+/// One or two `a` lines, and a line for every one or few existentials.
+fn random_prefix(random: &mut Random, universals: &[u32], existentials: &[u32]) -> Vec<Prefix> {
+    let mut prefix = Vec::new();
+    let (first, second) = universals.split_at(random.below(universals.len() + 1));
+    for part in [first, second] {
+        if !part.is_empty() {
+            prefix.push(Prefix::Universals(part.to_vec()));
+        }
+    }
+    let percent = random.pick(&[25, 50, 50, 75]);
+    let mut rest = existentials;
+    while !rest.is_empty() {
+        if random.chance(20) {
+            let (named, behind) = rest.split_at(random.between(1, rest.len()));
+            let place = random.below(prefix.len() + 1);
+            prefix.insert(place, Prefix::Existentials(named.to_vec()));
+            rest = behind;
+        } else {
+            let set = random.some(universals, percent);
+            let place = random.between(first_place(&prefix, &set), prefix.len());
+            prefix.insert(place, Prefix::Existential(rest[0], set));
+            rest = &rest[1..];
+        }
+    }
+    prefix
+}
+
+/// The first place behind all `a` lines that declare a member of the set.
+fn first_place(prefix: &[Prefix], set: &[u32]) -> usize {
+    let declares = |line: &Prefix| match line {
+        Prefix::Universals(named) => named.iter().any(|variable| set.contains(variable)),
+        _ => false,
+    };
+    prefix.iter().rposition(declares).map_or(0, |last| last + 1)
+}
+
+/// A clause of different variables.
+fn random_clause(
+    random: &mut Random,
+    universals: &[u32],
+    existentials: &[u32],
+    size: Size,
+) -> Vec<i32> {
+    let mut first = existentials.to_vec();
+    random.shuffle(&mut first);
+    let mut rest = first.split_off(size.least.min(first.len()));
+    rest.extend(universals);
+    random.shuffle(&mut rest);
+    let width = random.between(size.width.0, size.width.1);
+    let chosen = first.into_iter().chain(rest).take(width);
+    let signed = chosen.map(|variable| {
+        let number = variable as i32;
+        if random.chance(50) {
+            number
+        } else {
+            -number
+        }
+    });
+    signed.collect()
+}
+
+/// A formula near one of the limits: variables, clauses or literals.
+pub fn crowded_formula(random: &mut Random) -> Draft {
+    let mut draft = random_formula(random, CROWDED);
+    match random.below(3) {
+        0 => draft.variables = random.between(505, 512),
+        1 => {
+            let unit = vec![draft.clauses[0][0]];
+            draft.clauses.resize(random.between(2_030, 2_048), unit);
+        }
+        _ => fill_with_literals(&mut draft, random.between(8_120, 8_192)),
+    }
+    draft
+}
+
+/// Repeats clauses until there are so many literals.
+fn fill_with_literals(draft: &mut Draft, literals: usize) {
+    let widest = draft.clauses.iter().max_by_key(|clause| clause.len());
+    let widest = widest.cloned().unwrap_or_default();
+    let used: usize = draft.clauses.iter().map(Vec::len).sum();
+    let mut missing = literals - used;
+    while missing > 0 {
+        let width = missing.min(widest.len());
+        draft.clauses.push(widest[..width].to_vec());
+        missing -= width;
+    }
+}
+
+/// 000, section 6: (all universals) is equivalent to (y1 = y2), where y1 and y2
+/// see one half each. Appends the clauses and the prefix lines.
+fn add_equivalence(draft: &mut Draft, half: usize) {
+    let base = draft.variables as i32;
+    let first: Vec<i32> = (1..=half as i32).map(|i| base + i).collect();
+    let second: Vec<i32> = first.iter().map(|x| x + half as i32).collect();
+    let all = [first.clone(), second.clone()].concat();
+    let (y1, y2) = (base + 2 * half as i32 + 1, base + 2 * half as i32 + 2);
+    let set = |part: &[i32]| part.iter().map(|&x| x as u32).collect::<Vec<u32>>();
+    draft.prefix.push(Prefix::Universals(set(&all)));
+    draft
+        .prefix
+        .push(Prefix::Existential(y1 as u32, set(&first)));
+    draft
+        .prefix
+        .push(Prefix::Existential(y2 as u32, set(&second)));
+    let negated: Vec<i32> = all.iter().map(|x| -x).collect();
+    draft
+        .clauses
+        .push([negated.clone(), vec![y1, -y2]].concat());
+    draft.clauses.push([negated, vec![-y1, y2]].concat());
+    for x in all {
+        draft.clauses.push(vec![x, y1, y2]);
+        draft.clauses.push(vec![x, -y1, -y2]);
+    }
+    draft.variables = y2 as usize;
+}
+
+/// F_n of 000, section 6; F_0 is the example of 002, section 5.
+pub fn family_f(n: usize) -> Draft {
+    let mut draft = Draft::default();
+    add_equivalence(&mut draft, n + 1);
+    draft
+}
+
+/// G_n of 000, section 6.
+pub fn family_g(n: usize) -> Draft {
+    let mut draft = Draft::default();
+    for i in 0..=n {
+        add_equivalence(&mut draft, i + 1);
+    }
+    draft
+}
+
+/// F_n under another numbering, with some signs turned and the clauses mixed.
+pub fn disguised_family(random: &mut Random, n: usize) -> Draft {
+    let mut draft = family_f(n);
+    draft.variables += random.below(3);
+    let mut numbers: Vec<u32> = (1..=draft.variables as u32).collect();
+    random.shuffle(&mut numbers);
+    let renamed = |variable: u32| numbers[variable as usize - 1];
+    for line in &mut draft.prefix {
+        match line {
+            Prefix::Universals(named) | Prefix::Existentials(named) => {
+                named.iter_mut().for_each(|v| *v = renamed(*v));
+            }
+            Prefix::Existential(variable, set) => {
+                *variable = renamed(*variable);
+                set.iter_mut().for_each(|v| *v = renamed(*v));
+            }
+        }
+    }
+    let flipped: Vec<bool> = numbers.iter().map(|_| random.chance(50)).collect();
+    for literal in draft.clauses.iter_mut().flatten() {
+        let variable = literal.unsigned_abs();
+        let sign = if flipped[variable as usize - 1] {
+            -1
+        } else {
+            1
+        };
+        *literal = literal.signum() * sign * renamed(variable) as i32;
+    }
+    random.shuffle(&mut draft.clauses);
+    draft
+}
+
+/// The formula and the steps of 002, section 5.
+pub const EXAMPLE: &[u8] = include_bytes!("../../checker/tests/data/ex002_formula.dq");
+pub const EXAMPLE_STEPS: &[u8] = include_bytes!("../../checker/tests/data/ex002_steps.bin");
+
+/// The formula of 000, Theorem 2: false, and no rule applies to it.
+pub const THEOREM: &[u8] = include_bytes!("../../checker/tests/data/thm2_000.dq");

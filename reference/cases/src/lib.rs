@@ -1,0 +1,35 @@
+//! Seeded cases for comparing checkers: a text, a list of records and the line
+//! that the reference checker prints for them.
+
+#![forbid(unsafe_code)]
+
+pub mod case;
+pub mod container;
+pub mod damage;
+pub mod draft;
+pub mod formulas;
+pub mod lent;
+pub mod prover;
+pub mod published;
+pub mod random;
+pub mod seeded;
+pub mod shaped;
+pub mod tabled;
+
+use case::Case;
+
+/// The cases that do not depend on a seed.
+pub fn fixed() -> Vec<Case> {
+    [tabled::cases(), shaped::cases(), published::cases()].concat()
+}
+
+/// The fixed cases, then seeded ones, `count` in all; without a count, the
+/// fixed cases and a thousand seeded ones.
+pub fn generate(seed: u64, count: Option<usize>) -> Vec<Case> {
+    let mut cases = fixed();
+    let count = count.unwrap_or(cases.len() + 1_000);
+    cases.truncate(count);
+    let seeded = (count - cases.len()) as u64;
+    cases.extend((0..seeded).map(|index| seeded::case(seed, index)));
+    cases
+}

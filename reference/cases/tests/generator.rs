@@ -1,0 +1,130 @@
+//! The generator: the same cases for a seed, and every refusal often enough.
+
+use std::collections::{BTreeMap, BTreeSet};
+
+use std::sync::OnceLock;
+
+use cases::case::Case;
+use cases::container::{lines, pack, unpack};
+use cases::{fixed, generate, seeded};
+
+/// Five thousand cases, made once for all tests.
+fn many() -> &'static [Case] {
+    static MANY: OnceLock<Vec<Case>> = OnceLock::new();
+    MANY.get_or_init(|| generate(1, Some(5_000)))
+}
+
+#[test]
+fn a_seed_gives_the_same_cases() {
+    let first = generate(5, Some(1_000));
+    assert_eq!(first.len(), 1_000);
+    assert_eq!(first, generate(5, Some(1_000)));
+    assert_ne!(first, generate(6, Some(1_000)));
+    // Longer lists go on where shorter ones end.
+    assert_eq!(first[..], generate(5, Some(1_100))[..1_000]);
+}
+
+#[test]
+fn a_seed_gives_the_same_cases_on_every_machine() {
+    let lines: Vec<String> = (0..12).map(|i| seeded::case(1, i).expected).collect();
+    assert_eq!(lines, SEED_1);
+}
+
+const SEED_1: [&str; 12] = [
+    "refuted 1 13",
+    "refuted 12 26",
+    "open 7",
+    "bad 4 29",
+    "formula 5 10",
+    "formula 2 10",
+    "bad 1 20",
+    "formula 12 10",
+    "bad 170 22",
+    "bad 8 20",
+    "refuted 1 24",
+    "bad 68 20",
+];
+
+#[test]
+fn containers_keep_the_cases() {
+    let cases = generate(5, Some(900));
+    let bytes = pack(&cases);
+    assert_eq!(unpack(&bytes), Some(cases.clone()));
+    assert_eq!(unpack(&bytes[..bytes.len() - 1]), None);
+    assert_eq!(bytes[..4], 900u32.to_le_bytes());
+    assert_eq!(lines(&cases).lines().count(), 900);
+}
+
+#[test]
+fn labels_are_short() {
+    let long = |label: &str| label.len() > 60 || label.contains('\n');
+    assert!(!many().iter().any(|case| long(&case.label)));
+}
+
+/// For each kind of line, with its number if it has one: how many, and at how
+/// many different lines or steps.
+fn coverage(cases: &[Case]) -> BTreeMap<String, (usize, usize)> {
+    let mut places: BTreeMap<String, Vec<String>> = BTreeMap::new();
+    for case in cases {
+        let words: Vec<&str> = case.expected.split(' ').collect();
+        let kind = match words[0] {
+            "bad" | "formula" => format!("{} {}", words[0], words[2]),
+            verdict => verdict.to_string(),
+        };
+        places.entry(kind).or_default().push(words[1].to_string());
+    }
+    let tally = |places: Vec<String>| {
+        let different: BTreeSet<&String> = places.iter().collect();
+        (places.len(), different.len())
+    };
+    let counted = places.into_iter().map(|(kind, found)| (kind, tally(found)));
+    counted.collect()
+}
+
+#[test]
+fn every_refusal_occurs_at_several_places() {
+    let coverage = coverage(many());
+    let formula = [10, 11, 12, 13, 14].map(|n| (format!("formula {n}"), 40, 8));
+    let bad = [20, 21, 22, 23, 24, 25, 26, 27, 28, 29].map(|n| (format!("bad {n}"), 30, 6));
+    let verdicts = ["refuted", "open"].map(|v| (v.to_string(), 600, 20));
+    let list = [("bad 11".to_string(), 3, 1)];
+    let wanted: Vec<_> = formula
+        .into_iter()
+        .chain(bad)
+        .chain(verdicts)
+        .chain(list)
+        .collect();
+    for (kind, least, places) in &wanted {
+        let found = coverage.get(kind).copied().unwrap_or_default();
+        assert!(found.0 >= *least && found.1 >= *places, "{kind}: {found:?}");
+    }
+    // There are no other outcomes: 1 and 2 need tables.
+    assert_eq!(coverage.len(), wanted.len(), "{coverage:?}");
+}
+
+#[test]
+fn many_lists_go_deep() {
+    let mut deep = 0;
+    let mut refuted_by_steps = 0;
+    for case in many() {
+        let words: Vec<&str> = case.expected.split(' ').collect();
+        let steps: usize = words[1].parse().unwrap();
+        deep += usize::from(words[0] != "formula" && steps >= 20);
+        refuted_by_steps += usize::from(words[0] == "refuted" && steps >= 3);
+    }
+    assert!(deep > 700, "{deep}");
+    assert!(refuted_by_steps > 300, "{refuted_by_steps}");
+}
+
+#[test]
+fn the_families_of_000_are_refuted() {
+    let families = fixed().into_iter().filter(|case| {
+        case.label.starts_with("published/F_") || case.label.starts_with("published/G_")
+    });
+    let mut count = 0;
+    for case in families {
+        assert!(case.expected.starts_with("refuted"), "{}", case.label);
+        count += 1;
+    }
+    assert_eq!(count, 22);
+}
