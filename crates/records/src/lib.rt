@@ -5,12 +5,12 @@ ghost use lib.ListN.{length};
 ghost use lib.Seq.{slice};
 ghost use Rattle.dqbf.specs.Bytes.{number};
 ghost use Rattle.dqbf.specs.Record as Calculus;
-ghost use Rattle.records.specs.Record.{recordIn};
+ghost use Rattle.records.specs.Record.{decodedIn};
 
 const RECORD_SIZE: usize = 16;
 
-// What a record says. `Malformed` is number 20: the kind is not 1 to 3, a byte stated as 0 is not, or there are fewer than 16 bytes.
-pub enum Record {
+// The three kinds of steps.
+pub enum Step {
     Resolution {
         clause: u32,
         second: u32,
@@ -25,6 +25,11 @@ pub enum Record {
         left: u32,
         right: u32,
     },
+}
+
+// What a record says: a step, or number 20: the kind is not 1 to 3, a byte stated as 0 is not, or there are fewer than 16 bytes.
+pub enum Decoded {
+    Step(Step),
     Malformed,
 }
 
@@ -70,39 +75,46 @@ fn zeros_behind_kind(bytes: &[u8]) -> bool
 }
 
 // The record at the front of some bytes; those behind the sixteenth are not read.
-pub fn decode(bytes: &[u8]) -> Record
-    ensures { λ r. ⌜ recordIn r ≡ Calculus.recordOf (now (bytes .entry)) ⌝ }
+pub fn decode(bytes: &[u8]) -> Decoded
+    ensures { λ r. ⌜ decodedIn r ≡ Calculus.recordOf (now (bytes .entry)) ⌝ }
 {
     if bytes.len() < RECORD_SIZE {
-        return Record::Malformed;
+        return Decoded::Malformed;
     }
     if !zeros_behind_kind(bytes) {
-        return Record::Malformed;
+        return Decoded::Malformed;
     }
     let kind = bytes[0];
     let clause = number_at(bytes, 4);
     let second = number_at(bytes, 8);
     let third = number_at(bytes, 12);
     match kind {
-        1 => Record::Resolution {
-            clause,
-            second,
-            pivot: signed(third),
-        },
+        1 => {
+            let step = Step::Resolution {
+                clause,
+                second,
+                pivot: signed(third),
+            };
+            Decoded::Step(step)
+        }
         2 => {
             if second != 0 {
-                return Record::Malformed;
+                return Decoded::Malformed;
             }
-            Record::Reduction {
+            let step = Step::Reduction {
                 clause,
                 literal: signed(third),
-            }
+            };
+            Decoded::Step(step)
         }
-        3 => Record::Fork {
-            clause,
-            left: second,
-            right: third,
-        },
-        _ => Record::Malformed,
+        3 => {
+            let step = Step::Fork {
+                clause,
+                left: second,
+                right: third,
+            };
+            Decoded::Step(step)
+        }
+        _ => Decoded::Malformed,
     }
 }

@@ -16,8 +16,9 @@ use lib.Seq.{slice, slice-cons, slice-empty, take-all, take-take, getD-take, len
 use Rattle.dqbf.specs.Limits.{recordSize}
 use Rattle.dqbf.specs.Bytes.{number}
 use Rattle.dqbf.specs.Record.{zeros, signed, recordOf}
-use Rattle.records.specs.Record.{recordIn}
-use Rattle.records.specs.declared.Record.the-variants.{Resolution, Reduction, Fork, Malformed}
+use Rattle.records.specs.Record.{stepIn, decodedIn}
+use Rattle.records.specs.declared.Step.the-variants.{Resolution, Reduction, Fork}
+use Rattle.records.specs.declared.Decoded.the-variants as Decoded
 
 -- ---- the bytes of a stretch
 
@@ -69,12 +70,12 @@ module _ (bs : List ℕ) (h : 4 ≤ length bs) where
 
 -- ---- what the bytes say
 
-pub is-short : (bs : List ℕ) → length bs < recordSize → recordIn Malformed ≡ recordOf bs
-unfolding recordIn recordOf
+pub is-short : (bs : List ℕ) → length bs < recordSize → decodedIn Decoded.Malformed ≡ recordOf bs
+unfolding decodedIn stepIn recordOf
 is-short bs h = rw (lt-ltb (length bs) recordSize h)
 
-pub not-zero : (bs : List ℕ) → recordSize ≤ length bs → zeros (slice 1 4 bs) ≡ false → recordIn Malformed ≡ recordOf bs
-unfolding recordIn recordOf
+pub not-zero : (bs : List ℕ) → recordSize ≤ length bs → zeros (slice 1 4 bs) ≡ false → decodedIn Decoded.Malformed ≡ recordOf bs
+unfolding decodedIn stepIn recordOf
 not-zero bs h z = rw (le-ltb (length bs) recordSize h, z)
 
 -- sixteen bytes, zeros behind the kind, and the three numbers as they were read
@@ -86,24 +87,24 @@ pub record Read (bs : List ℕ) (c d t : ℕ) : Type 0 where
   pub third : t ≡ number (slice 12 16 bs)
 
 module _ {bs : List ℕ} {c d t : ℕ} (r : Read bs c d t) where
-  pub is-resolution : {p : ℤ} → getD bs 0 0 ≡ 1 → p ≡ signed t → recordIn (Resolution c d p) ≡ recordOf bs
-  unfolding recordIn recordOf
+  pub is-resolution : {p : ℤ} → getD bs 0 0 ≡ 1 → p ≡ signed t → decodedIn (Decoded.Step (Resolution c d p)) ≡ recordOf bs
+  unfolding decodedIn stepIn recordOf
   is-resolution k e = rw (le-ltb (length bs) recordSize (r .long), r .zero, k, e, r .first, r .second, r .third)
 
-  pub is-reduction : {l : ℤ} → getD bs 0 0 ≡ 2 → d ≡ 0 → l ≡ signed t → recordIn (Reduction c l) ≡ recordOf bs
-  unfolding recordIn recordOf
+  pub is-reduction : {l : ℤ} → getD bs 0 0 ≡ 2 → d ≡ 0 → l ≡ signed t → decodedIn (Decoded.Step (Reduction c l)) ≡ recordOf bs
+  unfolding decodedIn stepIn recordOf
   is-reduction k o e = rw (le-ltb (length bs) recordSize (r .long), r .zero, k, e, r .first, ← r .second, o, r .third)
 
-  pub no-reduction : getD bs 0 0 ≡ 2 → d ≢ 0 → recordIn Malformed ≡ recordOf bs
-  unfolding recordIn recordOf
+  pub no-reduction : getD bs 0 0 ≡ 2 → d ≢ 0 → decodedIn Decoded.Malformed ≡ recordOf bs
+  unfolding decodedIn stepIn recordOf
   no-reduction k n = rw (le-ltb (length bs) recordSize (r .long), r .zero, k, ← r .second, ne-eqb d 0 n)
 
-  pub is-fork : getD bs 0 0 ≡ 3 → recordIn (Fork c d t) ≡ recordOf bs
-  unfolding recordIn recordOf
+  pub is-fork : getD bs 0 0 ≡ 3 → decodedIn (Decoded.Step (Fork c d t)) ≡ recordOf bs
+  unfolding decodedIn stepIn recordOf
   is-fork k = rw (le-ltb (length bs) recordSize (r .long), r .zero, k, r .first, r .second, r .third)
 
-  pub no-kind : getD bs 0 0 ≢ 1 → getD bs 0 0 ≢ 2 → getD bs 0 0 ≢ 3 → recordIn Malformed ≡ recordOf bs
-  unfolding recordIn recordOf
+  pub no-kind : getD bs 0 0 ≢ 1 → getD bs 0 0 ≢ 2 → getD bs 0 0 ≢ 3 → decodedIn Decoded.Malformed ≡ recordOf bs
+  unfolding decodedIn stepIn recordOf
   no-kind one two three =
       rw (le-ltb (length bs) recordSize (r .long), r .zero, ne-eqb (getD bs 0 0) 1 one, ne-eqb (getD bs 0 0) 2 two, ne-eqb (getD bs 0 0) 3 three)
 
