@@ -29,5 +29,6 @@ pub struct Ran {
 
 pub mod adding;
 pub mod clause;
+pub mod examine;
 pub mod refusal;
 pub mod rules;
