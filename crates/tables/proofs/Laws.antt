@@ -9,3 +9,5 @@ pub mod Spread
 pub mod Adding
 pub mod Entries
 pub mod Zeros
+pub mod Turns
+pub mod Unusable

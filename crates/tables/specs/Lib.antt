@@ -2,3 +2,4 @@ pub mod Tables
 pub mod Spread
 pub mod WellFormed
 pub mod Adding
+pub mod Unusable

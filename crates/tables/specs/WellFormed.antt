@@ -83,6 +83,10 @@ narrow C = leb (length C) widthLimit
 unfoldable pub overKinds : ℕ → List ℕ → Clause → Bool
 overKinds k kinds C = allOf (λ l. ltb 0 (entry kinds (natAbs l)) && leb (entry kinds (natAbs l)) k) C
 
+-- what these ask of one clause
+unfoldable pub clauseFits : ℕ → List ℕ → Clause → Bool
+clauseFits k kinds C = every (ascending 0 C ∷ narrow C ∷ overKinds k kinds C ∷ [])
+
 -- "each clause is ascending, of at most 32 literals, over declared or fork variables in use, a formula clause over declared ones only"
 unfoldable pub clausesFit : ℕ → List ℕ → List Clause → Bool
 clausesFit formula kinds Cs = every (allOf (ascending 0) Cs ∷ allOf narrow Cs ∷ allOf (overKinds 3 kinds) Cs ∷ allOf (overKinds 2 kinds) (take formula Cs) ∷ [])
@@ -125,6 +129,13 @@ unfoldable pub forksAbove : ℕ → List ℕ → Bool
 forksAbove bound [] = true
 forksAbove zero (k ∷ kinds) = eqb k 3 && forksAbove zero kinds
 forksAbove (suc bound) (k ∷ kinds) = not (eqb k 3) && forksAbove bound kinds
+
+-- what these ask of one variable, which is declared if its number is at most V
+unfoldable pub kindStands : Bool → ℕ → Bool
+kindStands declared k = cond declared (not (eqb k 3)) (eqb k 3)
+
+unfoldable pub variableFits : Bool → Set → ℕ → Set → Bool
+variableFits declared places k s = every (otherInside places k s ∷ isKind k ∷ undeclaredBare k s ∷ kindStands declared k ∷ [])
 
 -- with "the universals are the entries of kind 1"
 unfoldable pub variablesFit : ℕ → ℕ → List ℕ → List Set → Bool

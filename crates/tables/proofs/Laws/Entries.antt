@@ -14,7 +14,7 @@ use borrow.Author.Tests.{leb-true, eqb-true}
 use lib.Dec.{leb, ltb, eqb}
 use lib.IntN.{ℤ, natAbs}
 use lib.ListN.{length, getD, take, List·getD-eq-default}
-use lib.Seq.{getD-take, length-take-le}
+use lib.Seq.{getD-take}
 use Rattle.dqbf.specs.Limits.{widthLimit, tables}
 use Rattle.dqbf.specs.Literal.{Clause, _∈_}
 use Rattle.dqbf.specs.Set.{Set}
@@ -27,7 +27,7 @@ use Rattle.tables.specs.declared.State.{State}
 use Rattle.tables.specs.Tables.{Tables, stretch, cut, entry, kindsIn, setsIn, endsIn, clausesIn, modelIn}
 use Rattle.tables.specs.WellFormed.{endsRise, long, wellFormed}
 use Rattle.tables.proofs.Laws.Cuts.{stretch-length, cut-length, rise-le}
-use Rattle.tables.proofs.Laws.Formed.{long-is, formed-is}
+use Rattle.tables.proofs.Laws.Formed.{long-is, formed-is, ends-in}
 use Rattle.tables.proofs.Laws.Held.{clauses-is, kinds-is, sets-is}
 use Rattle.tables.proofs.Laws.Valid.{kind-entry, set-entry}
 use Rattle.tables.proofs.Laws.Spread.{valid-held}
@@ -85,7 +85,7 @@ module _ (t : Tables) (s : State) (lent : long t ≡ true) (formed : wellFormed 
   m = modelIn t s
 
   ends-count : length (endsIn t s) ≡ s .clauses .0
-  ends-count = length-take-le (s .clauses .0) (t .ends) (omega (arith, formed-is t s formed .counts .clauses, long-is t lent .ends))
+  ends-count = ends-in t s (long-is t lent) (formed-is t s formed .counts)
 
   pub unknown-told : (c : ℕ) → unknown m c ≡ (eqb c 0 || ltb (s .clauses .0) c)
   unfolding unknown

@@ -1,19 +1,26 @@
 -- The conditions of well-formedness as facts, both ways.
 --     Long, long-is, long-to           the tables' lengths
 --     Counts, counts-is, counts-to     the counts
+--     ends-in, kinds-in, sets-in       how many entries are in use
 --     Formed, formed-is, formed-to     well-formed tables
+--     ill-.., rest-decides             the same as the test goes
 -- Assumes nothing.
 use mathlib.Core.Path.{_≡_, refl, ap, sym, _∙_}
-use mathlib.Core.Bool.{Bool, true, false}
+use mathlib.Core.Bool.{Bool, true, false, not, true≢false}
+use mathlib.Core.List.{[], _∷_}
 use Prim.Native.Nat.{ℕ, zero, suc, _+_, _-_, _≤_, _<_}
-use borrow.Author.Tests.{leb-true, eqb-true, le-leb, eq-eqb}
+use native.Mathlib.Omega.{arith}
+use borrow.Author.Tests.{leb-true, eqb-true, le-leb, eq-eqb, not-false}
+use lib.Dec.{eqb}
 use lib.ListN.{length}
+use lib.Seq.{length-take-le}
 use Rattle.dqbf.specs.Limits.{clauseLimit, literalLimit, variableLimit, universalLimit}
 use Rattle.dqbf.specs.Model.{emptyFrom}
+use Rattle.dqbf.proofs.Laws.Tests.{never}
 use Rattle.tables.specs.declared.State.{State}
 use Rattle.tables.specs.Tables.{Tables, stretch, kindsIn, setsIn, endsIn, clausesIn}
-use Rattle.tables.specs.WellFormed.{allOf, isZero, isZeroLiteral, endsRise, long, withinLimits, boundInUse, clausesAddUp, countsFit, clausesFit, variablesFit, emptyTold, restZero, wellFormed}
-use Rattle.tables.proofs.Laws.Tests.{every-at, every-from}
+use Rattle.tables.specs.WellFormed.{every, allOf, isZero, isZeroLiteral, endsRise, long, withinLimits, boundInUse, clausesAddUp, countsFit, clausesFit, variablesFit, emptyTold, restZero, wellFormed}
+use Rattle.tables.proofs.Laws.Tests.{every-at, every-from, every-fails, every-last}
 
 -- ---- long
 
@@ -70,6 +77,17 @@ counts-to s f =
       (le-leb _ _ (f .in-use), (eq-eqb _ _ (f .adds), tt)),
     )
 
+-- the entries in use are as many as the counts say
+module _ (t : Tables) (s : State) (L : Long t) (C : Counts s) where
+  pub ends-in : length (endsIn t s) ≡ s .clauses .0
+  ends-in = length-take-le (s .clauses .0) (t .ends) (omega (arith, C .clauses, L .ends))
+
+  pub kinds-in : length (kindsIn t s) ≡ s .variables .0
+  kinds-in = length-take-le (s .variables .0) (t .kinds) (omega (arith, C .variables, L .kinds))
+
+  pub sets-in : length (setsIn t s) ≡ s .variables .0
+  sets-in = length-take-le (s .variables .0) (t .sets) (omega (arith, C .variables, L .sets))
+
 -- ---- wellFormed
 
 pub record Formed (t : Tables) (s : State) : Type 0 where
@@ -116,3 +134,32 @@ formed-to t s f =
         ),
       ),
     )
+
+-- ---- wellFormed in the order of its test: the counts, the clauses, the variables, the rest
+
+module _ (t : Tables) (s : State) where
+  -- the conditions on the clauses
+  abbrev pub clauseTests : Bool
+  clauseTests = every (endsRise 0 (endsIn t s) (s .literals) ∷ clausesFit (s .formula .0) (kindsIn t s) (clausesIn t s) ∷ eqb (s .empty .0) (emptyFrom 1 (clausesIn t s)) ∷ [])
+
+  pub ill-counts : countsFit s ≡ false → wellFormed t s ≡ false
+  unfolding wellFormed
+  ill-counts e = every-fails _ 0 e
+
+  pub ill-clauses : clauseTests ≡ false → wellFormed t s ≡ false
+  unfolding wellFormed emptyTold
+  ill-clauses e = never (wellFormed t s) (λ f. true≢false (sym (every-from _ (every-at _ f 1, (every-at _ f 2, (every-at _ f 4, tt)))) ∙ e))
+
+  pub ill-variables : variablesFit (s .bound .0) (s .universals) (kindsIn t s) (setsIn t s) ≡ false → wellFormed t s ≡ false
+  unfolding wellFormed
+  ill-variables e = every-fails _ 3 e
+
+  -- each test told by an answer that was not false
+  pub rest-decides : {a b c r : Bool} → a ≡ countsFit s → not a ≡ false → b ≡ clauseTests → not b ≡ false
+    → c ≡ variablesFit (s .bound .0) (s .universals) (kindsIn t s) (setsIn t s) → not c ≡ false → r ≡ restZero t s → r ≡ wellFormed t s
+  unfolding wellFormed emptyTold
+  rest-decides p a q b w c r =
+      let clauses = sym q ∙ not-false _ b in
+      r ∙ every-last (countsFit s ∷ endsRise 0 (endsIn t s) (s .literals) ∷ clausesFit (s .formula .0) (kindsIn t s) (clausesIn t s)
+        ∷ variablesFit (s .bound .0) (s .universals) (kindsIn t s) (setsIn t s) ∷ emptyTold s (clausesIn t s) ∷ []) (restZero t s)
+        (sym p ∙ not-false _ a, (every-at _ clauses 0, (every-at _ clauses 1, (sym w ∙ not-false _ c, (every-at _ clauses 2, tt)))))

@@ -27,7 +27,7 @@ use Rattle.tables.specs.WellFormed.{isZero, isZeroLiteral, forksAbove, v
 use Rattle.tables.proofs.Laws.Tests.{every-at}
 use Rattle.tables.proofs.Laws.Cuts.{flat-cut, flat-length, ends-cut, cut-length}
 use Rattle.tables.proofs.Laws.Rows.{over-self}
-use Rattle.tables.proofs.Laws.Formed.{Long, Formed}
+use Rattle.tables.proofs.Laws.Formed.{Long, Formed, ends-in, kinds-in, sets-in}
 
 pub zero-is : (x : ℕ) → isZero x ≡ true → x ≡ 0
 unfolding isZero
@@ -66,19 +66,10 @@ module _ (t : Tables) (s : State) where
   sets-is = take-append-drop (s .bound .0) (setsIn t s)
 
 module _ (t : Tables) (s : State) (L : Long t) (F : Formed t s) where
-  kinds-length : length (kindsIn t s) ≡ s .variables .0
-  kinds-length = length-take-le (s .variables .0) (t .kinds) (omega (arith, F .counts .variables, L .kinds))
-
-  sets-length : length (setsIn t s) ≡ s .variables .0
-  sets-length = length-take-le (s .variables .0) (t .sets) (omega (arith, F .counts .variables, L .sets))
-
-  ends-length : length (endsIn t s) ≡ s .clauses .0
-  ends-length = length-take-le (s .clauses .0) (t .ends) (omega (arith, F .counts .clauses, L .ends))
-
   pub kinds-is : kindRow (modelIn t s) ≡ kindsIn t s
   unfolding kindRow modelIn variablesFit
   kinds-is =
-      let forks : length (drop (s .bound .0) (setsIn t s)) ≡ length (kindsIn t s) - s .bound .0 = omega (arith, length-drop (s .bound .0) (setsIn t s), sets-length, kinds-length) in
+      let forks : length (drop (s .bound .0) (setsIn t s)) ≡ length (kindsIn t s) - s .bound .0 = omega (arith, length-drop (s .bound .0) (setsIn t s), sets-in t s L (F .counts), kinds-in t s L (F .counts)) in
       rw (forks, ← forks-drop (s .bound .0) (kindsIn t s) (every-at _ (F .variables) 5))
       (take-append-drop (s .bound .0) (kindsIn t s))
 
@@ -102,21 +93,21 @@ module _ (t : Tables) (s : State) (L : Long t) (F : Formed t s) where
 
   pub count-kinds : length (modelIn t s .kinds) ≡ s .bound .0
   unfolding modelIn
-  count-kinds = length-take-le (s .bound .0) (kindsIn t s) (omega (arith, F .counts .in-use, kinds-length))
+  count-kinds = length-take-le (s .bound .0) (kindsIn t s) (omega (arith, F .counts .in-use, kinds-in t s L (F .counts)))
 
   count-sets : length (modelIn t s .sets) ≡ s .bound .0
   unfolding modelIn
-  count-sets = length-take-le (s .bound .0) (setsIn t s) (omega (arith, F .counts .in-use, sets-length))
+  count-sets = length-take-le (s .bound .0) (setsIn t s) (omega (arith, F .counts .in-use, sets-in t s L (F .counts)))
 
   pub even-is : length (modelIn t s .sets) ≡ length (modelIn t s .kinds)
   even-is = count-sets ∙ sym count-kinds
 
   count-forks : length (modelIn t s .forks) ≡ s .variables .0 - s .bound .0
   unfolding modelIn
-  count-forks = length-drop (s .bound .0) (setsIn t s) ∙ ap (λ n. n - s .bound .0) sets-length
+  count-forks = length-drop (s .bound .0) (setsIn t s) ∙ ap (λ n. n - s .bound .0) (sets-in t s L (F .counts))
 
   clauses-length : length (clausesIn t s) ≡ s .clauses .0
-  clauses-length = cut-length 0 (endsIn t s) (t .literals) ∙ ends-length
+  clauses-length = cut-length 0 (endsIn t s) (t .literals) ∙ ends-in t s L (F .counts)
 
   pub count-formula : length (modelIn t s .formula) ≡ s .formula .0
   unfolding modelIn

@@ -1,6 +1,6 @@
 -- Tests of lists.
 --     and-left, and-right, both _ _      both sides of a conjunction
---     every-at, every-from, every-fails  one condition of a list that holds; each of them; one that fails
+--     every-at, every-from, every-fails, every-last     one condition of a list that holds; each of them; one that fails; the last one
 --     all-pass, all-fail, all-end        one turn of a loop that tests each entry
 --     all-member, all-getD, all-from     a test of all entries, and of each
 --     all-take, all-drop, all-same, all-replicate
@@ -37,6 +37,12 @@ pub every-from : (bs : List Bool) → Each bs → every bs ≡ true
 unfolding every
 every-from [] f = refl
 every-from (b ∷ bs) f = both _ _ (f .0) (every-from bs (f .1))
+
+-- the last condition decides, where all before it hold
+pub every-last : (bs : List Bool) (b : Bool) → Each bs → b ≡ every (bs ++ (b ∷ []))
+unfolding every
+every-last [] b f = sym (and-true b)
+every-last (c ∷ bs) b f = rw (f .0) (every-last bs b (f .1))
 
 pub every-fails : (bs : List Bool) (i : ℕ) → getD bs i true ≡ false → every bs ≡ false
 unfolding every

@@ -1,5 +1,6 @@
 -- A model passes the test `valid` exactly if it is valid in the calculus (dqbf, specs/Valid.antt).
 --     ascending-is, ascending-from     a clause in ascending order, both ways
+--     over-is, over-from               a clause over some kinds, both ways
 --     kind-entry, set-entry            kind and set of a variable are entries of the model's rows
 --     valid-is, valid-from             the test gives the record of facts, and back
 -- Assumes nothing.
@@ -73,14 +74,14 @@ inside-row (x ∷ l) (suc i) k e = let h = inside-row l i k e in omega arith
 
 -- ---- overKinds
 
-over-is : (k : ℕ) (kinds : List ℕ) (C : Clause) → overKinds k kinds C ≡ true → (l : ℤ) → l ∈ C → (0 < entry kinds (natAbs l)) × (entry kinds (natAbs l) ≤ k)
+pub over-is : (k : ℕ) (kinds : List ℕ) (C : Clause) → overKinds k kinds C ≡ true → (l : ℤ) → l ∈ C → (0 < entry kinds (natAbs l)) × (entry kinds (natAbs l) ≤ k)
 unfolding overKinds
 over-is k kinds C e l q =
     let x = entry kinds (natAbs l) in
     let b = all-member _ C e l q in
     (ltb-true 0 x (and-left (ltb 0 x) (leb x k) b), leb-true x k (and-right (ltb 0 x) (leb x k) b))
 
-over-from : (k : ℕ) (kinds : List ℕ) (C : Clause) → ((l : ℤ) → l ∈ C → (0 < entry kinds (natAbs l)) × (entry kinds (natAbs l) ≤ k)) → overKinds k kinds C ≡ true
+pub over-from : (k : ℕ) (kinds : List ℕ) (C : Clause) → ((l : ℤ) → l ∈ C → (0 < entry kinds (natAbs l)) × (entry kinds (natAbs l) ≤ k)) → overKinds k kinds C ≡ true
 unfolding overKinds
 over-from k kinds C f = all-from _ C (λ l q. both _ _ (lt-ltb _ _ (f l q .0)) (le-leb _ _ (f l q .1)))
 
