@@ -2,7 +2,6 @@
 ghost use mathlib.Core.Path.{_≡_};
 ghost use Rattle.tables.specs.Tables.{tablesOf};
 ghost use Rattle.questions.specs.Answers.{Shown, lengthTold, lengthAnswer, variableTold, variableAnswer};
-
 use dqbf::sets as words;
 use tables::ClauseNumber;
 use tables::State;
@@ -24,7 +23,14 @@ pub enum VariableAnswer {
 }
 
 // The clause's own stretch of the literals, with no copy made; the empty stretch at the start for an unknown number, short or ill-formed tables.
-pub fn show<'a>(literals: &'a [i16], ends: &[u16], sets: &[u64], kinds: &[u8], state: State, clause: ClauseNumber) -> &'a [i16]
+pub fn show<'a>(
+    literals: &'a [i16],
+    ends: &[u16],
+    sets: &[u64],
+    kinds: &[u8],
+    state: State,
+    clause: ClauseNumber,
+) -> &'a [i16]
     ensures { λ r. ⌜ Shown (tablesOf (now (literals .entry)) (now (ends .entry)) (now (sets .entry)) (now (kinds .entry))) state (clause .0) (literals .entry) r ⌝ }
 {
     let refused = formed::first_refusal(literals, ends, sets, kinds, state);
@@ -45,7 +51,14 @@ pub fn show<'a>(literals: &'a [i16], ends: &[u16], sets: &[u64], kinds: &[u8], s
 }
 
 // The length of a clause.
-pub fn clause_length(literals: &[i16], ends: &[u16], sets: &[u64], kinds: &[u8], state: State, clause: ClauseNumber) -> LengthAnswer
+pub fn clause_length(
+    literals: &[i16],
+    ends: &[u16],
+    sets: &[u64],
+    kinds: &[u8],
+    state: State,
+    clause: ClauseNumber,
+) -> LengthAnswer
     ensures { λ r. ⌜ lengthTold r ≡ lengthAnswer (tablesOf (now (literals .entry)) (now (ends .entry)) (now (sets .entry)) (now (kinds .entry))) state (clause .0) ⌝ }
 {
     let refused = formed::first_refusal(literals, ends, sets, kinds, state);
@@ -64,7 +77,14 @@ pub fn clause_length(literals: &[i16], ends: &[u16], sets: &[u64], kinds: &[u8],
 }
 
 // Kind and set size of a variable in use; a number that no line declares has kind 0 and no universal.
-pub fn variable(literals: &[i16], ends: &[u16], sets: &[u64], kinds: &[u8], state: State, number: VariableNumber) -> VariableAnswer
+pub fn variable(
+    literals: &[i16],
+    ends: &[u16],
+    sets: &[u64],
+    kinds: &[u8],
+    state: State,
+    number: VariableNumber,
+) -> VariableAnswer
     ensures { λ r. ⌜ variableTold r ≡ variableAnswer (tablesOf (now (literals .entry)) (now (ends .entry)) (now (sets .entry)) (now (kinds .entry))) state (number .0) ⌝ }
 {
     let refused = formed::first_refusal(literals, ends, sets, kinds, state);

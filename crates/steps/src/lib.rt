@@ -32,3 +32,4 @@ pub mod clause;
 pub mod examine;
 pub mod refusal;
 pub mod rules;
+pub mod step;
