@@ -3,7 +3,6 @@ use crate::Stepped;
 use crate::adding;
 use crate::examine;
 use crate::refusal;
-use records::Decoded;
 use tables::State;
 use tables::formed;
 ghost use mathlib.Core.Path.{_≡_};
@@ -33,9 +32,5 @@ pub fn step(
     if !formed::well_formed(literals, ends, sets, kinds, state) {
         return adding::refused(state, refusal::ILL_FORMED);
     }
-    let decoded = records::decode(bytes);
-    let Decoded::Step(step) = decoded else {
-        return adding::refused(state, refusal::MALFORMED);
-    };
-    examine::examine(step, literals, ends, sets, kinds, state)
+    examine::examine_bytes(bytes, literals, ends, sets, kinds, state)
 }

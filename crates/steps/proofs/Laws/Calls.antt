@@ -40,13 +40,21 @@ not-false false h = sym h
 -- ---- a record
 
 -- a decoded record is the calculus'
-pub decoded-step : (m : Model) (bytes : List ℕ) {d : Decoded} (s : Step) → decodedIn d ≡ recordOf bytes → d ≡ Decoded.Step s → examineBytes tables m bytes ≡ examine tables m (stepIn s)
+decoded-step : (m : Model) (bytes : List ℕ) {d : Decoded} (s : Step) → decodedIn d ≡ recordOf bytes → d ≡ Decoded.Step s → examineBytes tables m bytes ≡ examine tables m (stepIn s)
 unfolding examineBytes examineOr20 decodedIn
 decoded-step m bytes s e q = rw (← e, q)
 
-pub decoded-malformed : (m : Model) (bytes : List ℕ) {d : Decoded} → decodedIn d ≡ recordOf bytes → d ≡ Decoded.Malformed → examineBytes tables m bytes ≡ refuses (refusal 20)
+decoded-malformed : (m : Model) (bytes : List ℕ) {d : Decoded} → decodedIn d ≡ recordOf bytes → d ≡ Decoded.Malformed → examineBytes tables m bytes ≡ refuses (refusal 20)
 unfolding examineBytes examineOr20 decodedIn
 decoded-malformed m bytes e q = rw (← e, q)
+
+module _ (t : Tables) (s : State) (h : Holding t s) (bytes : List ℕ) {d : Decoded} (read : decodedIn d ≡ recordOf bytes) where
+  pub bytes-malformed : {r : Stepped} → d ≡ Decoded.Malformed → r ≡ record { state = s; answer = Refused 20 } → After t s (examineBytes tables (modelIn t s) bytes) t r
+  bytes-malformed q e = after-refused t s h (examineBytes tables (modelIn t s) bytes) (refusal 20) (decoded-malformed (modelIn t s) bytes read q) e
+
+  pub bytes-examined : (x : Step) {t′ : Tables} {r : Stepped} → d ≡ Decoded.Step x → After t s (examine tables (modelIn t s) (stepIn x)) t′ r
+      → After t s (examineBytes tables (modelIn t s) bytes) t′ r
+  bytes-examined x q e = e ∙ ap (examined t (modelIn t s)) (sym (decoded-step (modelIn t s) bytes x read q))
 
 -- ---- a step call
 
@@ -71,10 +79,5 @@ module _ (t : Tables) (s : State) (bytes : List ℕ) {a : Bool} (lent : a ≡ lo
       unfolding stepOf
       step-is = rw (← lent, not-false a enough, ← formed, not-false b good)
 
-      module _ {d : Decoded} (read : decodedIn d ≡ recordOf bytes) where
-        pub step-malformed : {r : Stepped} → d ≡ Decoded.Malformed → r ≡ record { state = s; answer = Refused 20 } → Stepping t s bytes t r
-        step-malformed q e =
-            after-refused t s step-holding (examineBytes tables (modelIn t s) bytes) (refusal 20) (decoded-malformed (modelIn t s) bytes read q) e ∙ sym step-is
-
-        pub step-examined : (x : Step) {t′ : Tables} {r : Stepped} → d ≡ Decoded.Step x → After t s (examine tables (modelIn t s) (stepIn x)) t′ r → Stepping t s bytes t′ r
-        step-examined x q e = e ∙ ap (examined t (modelIn t s)) (sym (decoded-step (modelIn t s) bytes x read q)) ∙ sym step-is
+      pub step-examined : {t′ : Tables} {r : Stepped} → After t s (examineBytes tables (modelIn t s) bytes) t′ r → Stepping t s bytes t′ r
+      step-examined e = e ∙ sym step-is
