@@ -52,7 +52,14 @@ pub fn examine(
 }
 
 // The record at the front of the bytes: 20, then its rule.
-pub fn examine_bytes(bytes: &[u8], literals: &mut [i16], ends: &mut [u16], sets: &mut [u64], kinds: &mut [u8], state: State) -> Stepped
+pub fn examine_bytes(
+    bytes: &[u8],
+    literals: &mut [i16],
+    ends: &mut [u16],
+    sets: &mut [u64],
+    kinds: &mut [u8],
+    state: State,
+) -> Stepped
     requires { ⌜ Holding (tablesOf (now literals) (now ends) (now sets) (now kinds)) state ⌝ }
     ensures { λ r. ⌜ After (tablesOf (now (literals .entry)) (now (ends .entry)) (now (sets .entry)) (now (kinds .entry))) state
         (Run.examineBytes Limits.tables (modelIn (tablesOf (now (literals .entry)) (now (ends .entry)) (now (sets .entry)) (now (kinds .entry))) state) (now (bytes .entry)))

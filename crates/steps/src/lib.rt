@@ -32,4 +32,5 @@ pub mod clause;
 pub mod examine;
 pub mod refusal;
 pub mod rules;
+pub mod run;
 pub mod step;
