@@ -90,3 +90,33 @@ fn run_records(
     }
     verdict(current)
 }
+
+// Runs a list of records: 1, 2, the list's length, then record by record up to the first that is refused. Records behind an empty clause are examined
+// like the rest.
+pub fn run(
+    bytes: &[u8],
+    literals: &mut [i16],
+    ends: &mut [u16],
+    sets: &mut [u64],
+    kinds: &mut [u8],
+    state: State,
+) -> Ran
+    ensures { λ r. ⌜ _≡_ {A = AfterRun}
+        (record {
+          tables = tablesOf (now (literals .exit)) (now (ends .exit)) (now (sets .exit)) (now (kinds .exit));
+          state = r .state;
+          answer = r .answer;
+        })
+        (runOf (tablesOf (now (literals .entry)) (now (ends .entry)) (now (sets .entry)) (now (kinds .entry))) state (now (bytes .entry))) ⌝ }
+{
+    if !formed::long_enough(literals, ends, sets, kinds) {
+        return stopped(state, 0, refusal::SHORT_TABLE);
+    }
+    if !formed::well_formed(literals, ends, sets, kinds, state) {
+        return stopped(state, 0, refusal::ILL_FORMED);
+    }
+    if bytes.len() > 32768 {
+        return stopped(state, 0, refusal::LONG_LIST);
+    }
+    run_records(bytes, literals, ends, sets, kinds, state)
+}

@@ -4,13 +4,13 @@ use mathlib.Core.Bool.{Bool, true, false, not}
 use mathlib.Core.List.{List}
 use mathlib.Core.Option.{Option, none, some}
 use Prim.Native.Nat.{ℕ, zero, suc, _≤_, _<_}
-use borrow.Author.Tests.{lt-ltb, le-ltb, eq-eqb, ne-eqb}
+use borrow.Author.Tests.{lt-ltb, le-ltb}
 use lib.ListN.{length}
 use Rattle.dqbf.specs.Limits.{tables, recordsLimit}
 use Rattle.dqbf.specs.Refusal.{Refusal, refusal}
 use Rattle.dqbf.specs.Model.{Model, steps, lowestEmpty}
 use Rattle.dqbf.specs.Record.{Record, recordOf}
-use Rattle.dqbf.specs.Run.{Examined, refuses, examine, examineOr20, examineBytes, Verdict, bad, verdictOf, run}
+use Rattle.dqbf.specs.Run.{Examined, refuses, examine, examineOr20, examineBytes, runFrom, run}
 use Rattle.dqbf.specs.Run as Run
 use Rattle.records.specs.Record.{stepIn, decodedIn}
 use Rattle.records.specs.declared.Step.{Step}
@@ -26,7 +26,8 @@ use Rattle.steps.specs.Adding.{Holding, After}
 use Rattle.steps.specs.declared.Stepped.{Stepped}
 use Rattle.steps.specs.declared.Ran.{Ran}
 use Rattle.steps.specs.declared.StepAnswer.the-variants.{Refused}
-use Rattle.steps.specs.declared.RunAnswer.the-variants.{Refuted, Open, Bad}
+use Rattle.steps.specs.declared.RunAnswer.the-variants.{Bad}
+use Rattle.steps.specs.Runs.{recordsIn}
 use Rattle.steps.proofs.Laws.Adding.{after-refused}
 
 not-true : (b : Bool) → not b ≡ true → b ≡ false
@@ -81,3 +82,43 @@ module _ (t : Tables) (s : State) (bytes : List ℕ) {a : Bool} (lent : a ≡ lo
 
       pub step-examined : {t′ : Tables} {r : Stepped} → After t s (examineBytes tables (modelIn t s) bytes) t′ r → Stepping t s bytes t′ r
       step-examined e = e ∙ sym step-is
+
+-- ---- a run call
+
+abbrev pub Running : Tables → State → List ℕ → Tables → Ran → Type 0
+Running t s bytes t′ r = _≡_ {A = AfterRun} (record { tables = t′; state = r .state; answer = r .answer }) (runOf t s bytes)
+
+module _ (t : Tables) (s : State) (bytes : List ℕ) {a : Bool} (lent : a ≡ long t) where
+  pub run-short : {r : Ran} → not a ≡ true → r ≡ record { state = s; answer = Bad (record { 0 = 0 }) 1 } → Running t s bytes t r
+  unfolding runOf runRefused
+  run-short h e = rw (← lent, not-true a h, e)
+
+  module _ (enough : not a ≡ false) {b : Bool} (formed : b ≡ wellFormed t s) where
+    pub run-formless : {r : Ran} → not b ≡ true → r ≡ record { state = s; answer = Bad (record { 0 = 0 }) 2 } → Running t s bytes t r
+    unfolding runOf runRefused
+    run-formless h e = rw (← lent, not-false a enough, ← formed, not-true b h, e)
+
+    module _ (good : not b ≡ false) where
+      pub run-holding : Holding t s
+      run-holding = record { lent = sym lent ∙ not-false a enough; formed = sym formed ∙ not-false b good }
+
+      run-is : runOf t s bytes ≡ ranOn t (run tables (modelIn t s) bytes)
+      unfolding runOf
+      run-is = rw (← lent, not-false a enough, ← formed, not-false b good)
+
+      pub run-long : {r : Ran} → recordsLimit < length bytes → r ≡ record { state = s; answer = Bad (record { 0 = 0 }) 11 } → Running t s bytes t r
+      unfolding run ranOn runAnswer
+      run-long h e = rw e (told ∙ sym (run-is ∙ rw (lt-ltb recordsLimit (length bytes) h)))
+        where
+          told : _≡_ {A = AfterRun} (record { tables = t; state = s; answer = Bad (record { 0 = 0 }) 11 })
+              (record { tables = spread (modelIn t s) t; state = stateOf (modelIn t s); answer = Bad (record { 0 = 0 }) 11 })
+          told = λ i. record {
+            tables = sym (model-held t s (run-holding .lent) (run-holding .formed)) i;
+            state = sym (state-held t s (run-holding .lent) (run-holding .formed)) i;
+            answer = Bad (record { 0 = 0 }) 11;
+          }
+
+      pub run-on : length bytes ≤ recordsLimit → {t′ : Tables} {r : Ran}
+          → _≡_ {A = AfterRun} (record { tables = t′; state = r .state; answer = r .answer }) (ranOn t (runFrom tables (recordsIn bytes) 0 (modelIn t s))) → Running t s bytes t′ r
+      unfolding run
+      run-on h e = e ∙ sym (run-is ∙ rw (le-ltb recordsLimit (length bytes) h))
