@@ -33,16 +33,16 @@ pub fn show<'a>(
 ) -> &'a [i16]
     ensures { λ r. ⌜ Shown (tablesOf (now (literals .entry)) (now (ends .entry)) (now (sets .entry)) (now (kinds .entry))) state (clause .0) (literals .entry) r ⌝ }
 {
-    let refused = formed::first_refusal(literals, ends, sets, kinds, state);
-    if refused != 0 {
-        return &literals[..0];
+    let nothing = &literals[..0];
+    if formed::first_refusal(literals, ends, sets, kinds, state) != 0 {
+        return nothing;
     }
-    let clauses = state.clauses;
+    let last = state.clauses;
     if clause.0 == 0 {
-        return &literals[..0];
+        return nothing;
     }
-    if clause.0 > clauses.0 {
-        return &literals[..0];
+    if clause.0 > last.0 {
+        return nothing;
     }
     let range = entries::clause_range(ends, clause);
     let start = range.start;
@@ -65,11 +65,11 @@ pub fn clause_length(
     if refused != 0 {
         return LengthAnswer::Refused(refused);
     }
-    let clauses = state.clauses;
+    let count = state.clauses;
     if clause.0 == 0 {
         return LengthAnswer::Refused(refusal::UNKNOWN_CLAUSE);
     }
-    if clause.0 > clauses.0 {
+    if clause.0 > count.0 {
         return LengthAnswer::Refused(refusal::UNKNOWN_CLAUSE);
     }
     let range = entries::clause_range(ends, clause);
