@@ -177,8 +177,6 @@ module _ (t : Tables) (s : State) (c : ℕ) {n : ℕ} (told : n ≡ unusableNumb
           ← kind-told t s lent formed c known,
           ← set-told t s lent formed c known,
         )
-<<<<<<< HEAD
-=======
 
     -- the number told is that of the universals in the variable's set
     pub variable-members : (c ≡ 0 → ⊥) → c ≤ s .variables .0 → variableAnswer t s c ≡ variable (kindOf m c) (members m (setOf m c))
@@ -190,4 +188,3 @@ module _ (t : Tables) (s : State) (c : ℕ) {n : ℕ} (told : n ≡ unusableNumb
           no-or (eqb c 0) (ltb (s .variables .0) c) (ne-eqb c 0 nonzero) (le-ltb (s .variables .0) c known),
           set-size tables m (valid-held t s lent formed) c,
         )
->>>>>>> wip-tables
