@@ -4,7 +4,6 @@
 --     one-clause, two-clauses       of well-formed tables, after a step's entries were stored
 --     formula-clause                the same for the reader, as long as there is no step
 --     room-is, room-told, room-one, room-two, step-room        what the leaves require
--- Assumes nothing.
 use mathlib.Core.Path.{_≡_, refl, ap, sym, _∙_}
 use mathlib.Core.Bool.{true, false, _||_}
 use mathlib.Core.List.{List, [], _∷_, _++_, append-assoc, append-nil}
