@@ -1,5 +1,4 @@
 -- The claims of specs/Statements.antt, from the laws.
--- Assumes nothing.
 use Rattle.tables.specs.Statements.{ValidExactly, HoldsItsModel, ReadsBack, LastCounts, RestStays, BlankValid}
 use Rattle.tables.proofs.Laws.Valid.{valid-is, valid-from}
 use Rattle.tables.proofs.Laws.Spread.{model-held, state-held, valid-held, model-back, formed-spread, spread-again, long-spread, frame, blank-valid, blank-state}

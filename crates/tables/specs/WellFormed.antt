@@ -6,7 +6,6 @@
 --     universalsCounted, universalsFill, othersInside, kindsKnown, undeclaredBare, forksAbove     the variables: variablesFit
 --     restZero                                         the entries that are not in use
 --     wellFormed, valid                                all of them, of tables with a state and of a model
--- Assumes nothing.
 use mathlib.Core.Bool.{Bool, true, cond, not, _&&_}
 use mathlib.Core.List.{List, [], _∷_}
 use Prim.Native.Nat.{ℕ, zero, suc, _+_, _-_, _^_}

@@ -4,7 +4,6 @@
 --     range-asks, range-ordered, range-inside, range-short     of a clause that is there
 --     length-told, shown-told, variable-told               an answer
 --     variable-members                                     how many universals the set holds
--- Assumes nothing.
 use mathlib.Core.Path.{_≡_, ap, sym, _∙_}
 use mathlib.Core.Bool.{true, false, cond, _||_}
 use mathlib.Core.List.{List, []}

@@ -6,7 +6,6 @@
 --     clause-count, literal-count, variable-count        the state's counts are the model's
 --     room-is, room-told, room-one, room-two, step-room  whether there is room, and what the leaves require
 --     steps-kept, variables-kept, room-next, room-variable, fork-..     for the leaves that are made of others
--- Assumes nothing.
 use mathlib.Core.Path.{_≡_, refl, ap, sym, _∙_}
 use mathlib.Core.Bool.{true, false, _||_}
 use mathlib.Core.List.{List, [], _∷_, _++_, append-assoc, append-nil}

@@ -3,7 +3,6 @@
 --     cut-length, cut-at, cut-flat       the clauses between their ends
 --     flat-cut, flat-append, flat-length, ends-cut, ends-append, ends-length, ends-rise   and back
 --     rise-le, rise-first, rise-at, entry-at       ends that never fall
--- Assumes nothing.
 use mathlib.Core.Path.{_≡_, refl, ap, _∙_}
 use mathlib.Core.Bool.{true}
 use mathlib.Core.List.{List, [], _∷_, _++_, append-assoc}

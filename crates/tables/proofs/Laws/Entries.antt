@@ -2,7 +2,6 @@
 --     entry-none, entry-some, entry-past      an entry by its number
 --     unknown-told, clause-at, clause-there, range-rises, range-ends, range-length, range-narrow     a clause of the model, and its range in the literals
 --     kind-told, set-told, literal-in-use     kind and set of a variable in use
--- Assumes nothing.
 use mathlib.Core.Path.{_≡_, refl, ap, sym, _∙_}
 use mathlib.Core.Bool.{true, _||_}
 use mathlib.Core.List.{List, [], _∷_}

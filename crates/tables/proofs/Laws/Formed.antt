@@ -4,7 +4,6 @@
 --     ends-in, kinds-in, sets-in       how many entries are in use
 --     Formed, formed-is, formed-to     well-formed tables
 --     ill-.., rest-decides             the same as the test goes
--- Assumes nothing.
 use mathlib.Core.Path.{_≡_, sym, _∙_}
 use mathlib.Core.Bool.{Bool, true, false, not, true≢false}
 use mathlib.Core.List.{[], _∷_}

@@ -4,7 +4,6 @@
 --     kinds-is, sets-is, clauses-is     the model's rows are the entries in use
 --     even-is       it has a set for each kind
 --     count-kinds, count-formula, count-universals     its counts
--- Assumes nothing.
 use mathlib.Core.Path.{_≡_, refl, ap, sym, _∙_}
 use mathlib.Core.Bool.{true, not}
 use mathlib.Core.List.{List, [], _∷_, _++_}

@@ -4,7 +4,6 @@
 --     over-over                                      the last row counts
 --     over-stored, over-set, over-zeros              entries stored behind a row, or in it; a row of zeros
 --     stored-none, stored-one, stored-stored, stored-tail      entries stored into a table
--- Assumes nothing.
 use mathlib.Core.Path.{_≡_, refl, ap, _∙_}
 use mathlib.Core.Bool.{Bool, true}
 use mathlib.Core.List.{List, [], _∷_, _++_, append-assoc, append-nil}

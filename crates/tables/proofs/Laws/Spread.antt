@@ -3,7 +3,6 @@
 --     spread-again, long-spread, frame    for a list of calls: another model, the lengths, the entries past the stated sizes
 --     blank-valid, blank-state            the model of zero tables
 --     model-held, state-held, valid-held  of well-formed tables: they are their model's, the state is its state, it is valid
--- Assumes nothing.
 use mathlib.Core.Path.{_≡_, refl, ap, _∙_}
 use mathlib.Core.Bool.{Bool, true}
 use mathlib.Core.List.{List, [], _++_}

@@ -5,7 +5,6 @@
 --     all-member, all-getD, all-from     a test of all entries, and of each
 --     all-take, all-drop, all-same, all-replicate
 --     variables-..                       the same of kinds and sets side by side
--- Assumes nothing.
 use mathlib.Core.Path.{_≡_, refl, sym}
 use mathlib.Core.Bool.{Bool, true, false, _&&_, and-assoc, and-true, and-false}
 use mathlib.Core.List.{List, [], _∷_, _++_, List·Memᴰ·head, List·Memᴰ·tail}

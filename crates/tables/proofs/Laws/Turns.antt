@@ -3,7 +3,6 @@
 --     clausesLeft, clauses-..        of the clauses between their ends
 --     variablesLeft, variables-..    of the kinds and sets
 --     one-shifted                    the lowest places as a word
--- Assumes nothing.
 use mathlib.Core.Path.{_≡_, refl, ap, sym, _∙_}
 use mathlib.Core.Bool.{Bool, true, false, cond, _&&_, and-true, and-false, true≢false}
 use mathlib.Core.List.{List, [], _∷_}

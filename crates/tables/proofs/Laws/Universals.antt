@@ -2,7 +2,6 @@
 --     size-single, single-size        a set of one place
 --     lowest-bit                      the lowest places
 --     Bits, bits-is, bits-from        what `universalBits` says, both ways
--- Assumes nothing.
 use mathlib.Core.Path.{_≡_, refl, ap, sym, _∙_}
 use mathlib.Core.Bool.{Bool, true, false, cond, _&&_, _||_, and-false, true≢false}
 use mathlib.Core.List.{List, [], _∷_}

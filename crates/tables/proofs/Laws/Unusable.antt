@@ -2,7 +2,6 @@
 --     unusable-short, unusable-ill, usable       the refusal that comes first
 --     number-short, number-ill, number-none      its number
 --     first-is, none-lent, none-formed           and back: what the number says
--- Assumes nothing.
 use mathlib.Core.Path.{_≡_, refl, sym, _∙_}
 use mathlib.Core.Bool.{Bool, true, false}
 use mathlib.Core.Option.{none, some}

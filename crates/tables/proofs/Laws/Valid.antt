@@ -3,7 +3,6 @@
 --     over-is, over-from               a clause over some kinds, both ways
 --     kind-entry, set-entry            kind and set of a variable are entries of the model's rows
 --     valid-is, valid-from             the test gives the record of facts, and back
--- Assumes nothing.
 use mathlib.Core.Path.{_≡_, refl, ap, sym, _∙_}
 use mathlib.Core.Bool.{Bool, true, false, cond, not, true≢false}
 use mathlib.Core.List.{List, [], _∷_, _++_, List·Memᴰ·head, List·Memᴰ·tail, List·Memᴰ·not-nil, List·Memᴰ·cases-cons, Memᴰ·append-left, List·Memᴰ·append-cases}

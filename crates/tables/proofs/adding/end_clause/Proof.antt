@@ -1,4 +1,4 @@
--- `tables::adding::end_clause` meets its contract. Assumes nothing.
+-- `tables::adding::end_clause` meets its contract.
 use mathlib.Core.Path.{refl}
 use borrow.Author.Needs.{needs}
 use Rattle.tables.specs.Adding.{clauseEnded}

@@ -1,4 +1,4 @@
--- `tables::formed::first_refusal` meets its contract. Assumes nothing.
+-- `tables::formed::first_refusal` meets its contract.
 use mathlib.Core.Path.{sym, _∙_}
 use borrow.Author.Needs.{needs}
 use borrow.Author.Tests.{not-true, not-false}

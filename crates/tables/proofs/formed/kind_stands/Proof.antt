@@ -1,4 +1,4 @@
--- `tables::formed::kind_stands` meets its contract. Assumes nothing.
+-- `tables::formed::kind_stands` meets its contract.
 use Rattle.tables.specs.WellFormed.{kindStands}
 use Rattle.tables.proofs.formed.kind_stands.Statement.{statement}
 use Rattle.tables.proofs.formed.kind_stands.Tie as tie

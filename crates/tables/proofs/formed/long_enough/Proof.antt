@@ -1,4 +1,4 @@
--- `tables::formed::long_enough` meets its contract. Assumes nothing.
+-- `tables::formed::long_enough` meets its contract.
 use mathlib.Core.Path.{sym}
 use borrow.Author.Tests.{lt-leb, le-leb}
 use Rattle.tables.specs.WellFormed.{long}

@@ -1,4 +1,4 @@
--- `tables::formed::well_formed` meets its contract. Assumes nothing.
+-- `tables::formed::well_formed` meets its contract.
 use mathlib.Core.Path.{sym, _∙_}
 use native.Mathlib.Omega.{arith}
 use borrow.Author.Needs.{needs}
