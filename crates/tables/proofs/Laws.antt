@@ -1,0 +1,13 @@
+pub mod Tests
+pub mod Cuts
+pub mod Rows
+pub mod Formed
+pub mod Held
+pub mod Universals
+pub mod Valid
+pub mod Spread
+pub mod Adding
+pub mod Entries
+pub mod Zeros
+pub mod Turns
+pub mod Unusable

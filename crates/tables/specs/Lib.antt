@@ -1,0 +1,5 @@
+pub mod Tables
+pub mod Spread
+pub mod WellFormed
+pub mod Adding
+pub mod Unusable

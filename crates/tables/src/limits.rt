@@ -1,0 +1,10 @@
+// The limits of document 01 that the tables have.
+pub const LITERAL_LIMIT: usize = 8192;
+
+pub const CLAUSE_LIMIT: usize = 2048;
+
+pub const VARIABLE_LIMIT: usize = 512;
+
+pub const UNIVERSAL_LIMIT: u16 = 64;
+
+pub const WIDTH_LIMIT: usize = 32;
