@@ -1,0 +1,5 @@
+-- Laws of the reading with tables
+pub mod Rows
+pub mod Pending
+pub mod Models
+pub mod Finishing
