@@ -2,7 +2,6 @@
 ghost use mathlib.Core.Path.{_≡_};
 ghost use Rattle.tables.specs.Tables.{tablesOf};
 ghost use Rattle.questions.specs.Answers.{Shown, lengthTold, lengthAnswer, variableTold, variableAnswer};
-
 use dqbf::sets as words;
 use tables::ClauseNumber;
 use tables::State;
@@ -24,19 +23,26 @@ pub enum VariableAnswer {
 }
 
 // The clause's own stretch of the literals, with no copy made; the empty stretch at the start for an unknown number, short or ill-formed tables.
-pub fn show<'a>(literals: &'a [i16], ends: &[u16], sets: &[u64], kinds: &[u8], state: State, clause: ClauseNumber) -> &'a [i16]
+pub fn show<'a>(
+    literals: &'a [i16],
+    ends: &[u16],
+    sets: &[u64],
+    kinds: &[u8],
+    state: State,
+    clause: ClauseNumber,
+) -> &'a [i16]
     ensures { λ r. ⌜ Shown (tablesOf (now (literals .entry)) (now (ends .entry)) (now (sets .entry)) (now (kinds .entry))) state (clause .0) (literals .entry) r ⌝ }
 {
-    let refused = formed::first_refusal(literals, ends, sets, kinds, state);
-    if refused != 0 {
-        return &literals[..0];
+    let nothing = &literals[..0];
+    if formed::first_refusal(literals, ends, sets, kinds, state) != 0 {
+        return nothing;
     }
-    let clauses = state.clauses;
+    let last = state.clauses;
     if clause.0 == 0 {
-        return &literals[..0];
+        return nothing;
     }
-    if clause.0 > clauses.0 {
-        return &literals[..0];
+    if clause.0 > last.0 {
+        return nothing;
     }
     let range = entries::clause_range(ends, clause);
     let start = range.start;
@@ -45,18 +51,25 @@ pub fn show<'a>(literals: &'a [i16], ends: &[u16], sets: &[u64], kinds: &[u8], s
 }
 
 // The length of a clause.
-pub fn clause_length(literals: &[i16], ends: &[u16], sets: &[u64], kinds: &[u8], state: State, clause: ClauseNumber) -> LengthAnswer
+pub fn clause_length(
+    literals: &[i16],
+    ends: &[u16],
+    sets: &[u64],
+    kinds: &[u8],
+    state: State,
+    clause: ClauseNumber,
+) -> LengthAnswer
     ensures { λ r. ⌜ lengthTold r ≡ lengthAnswer (tablesOf (now (literals .entry)) (now (ends .entry)) (now (sets .entry)) (now (kinds .entry))) state (clause .0) ⌝ }
 {
     let refused = formed::first_refusal(literals, ends, sets, kinds, state);
     if refused != 0 {
         return LengthAnswer::Refused(refused);
     }
-    let clauses = state.clauses;
+    let count = state.clauses;
     if clause.0 == 0 {
         return LengthAnswer::Refused(refusal::UNKNOWN_CLAUSE);
     }
-    if clause.0 > clauses.0 {
+    if clause.0 > count.0 {
         return LengthAnswer::Refused(refusal::UNKNOWN_CLAUSE);
     }
     let range = entries::clause_range(ends, clause);
@@ -64,7 +77,14 @@ pub fn clause_length(literals: &[i16], ends: &[u16], sets: &[u64], kinds: &[u8],
 }
 
 // Kind and set size of a variable in use; a number that no line declares has kind 0 and no universal.
-pub fn variable(literals: &[i16], ends: &[u16], sets: &[u64], kinds: &[u8], state: State, number: VariableNumber) -> VariableAnswer
+pub fn variable(
+    literals: &[i16],
+    ends: &[u16],
+    sets: &[u64],
+    kinds: &[u8],
+    state: State,
+    number: VariableNumber,
+) -> VariableAnswer
     ensures { λ r. ⌜ variableTold r ≡ variableAnswer (tablesOf (now (literals .entry)) (now (ends .entry)) (now (sets .entry)) (now (kinds .entry))) state (number .0) ⌝ }
 {
     let refused = formed::first_refusal(literals, ends, sets, kinds, state);

@@ -119,7 +119,7 @@ fn variable_fits(kind: u8, set: u64, declared: bool, places: u64) -> bool
     if kind == 0 {
         return set == 0;
     }
-    if kind == 1 {
+    if kind < 2 {
         return true;
     }
     set & places == set
@@ -290,7 +290,13 @@ pub fn well_formed(literals: &[i16], ends: &[u16], sets: &[u64], kinds: &[u8], s
 }
 
 // The number of the refusal that comes before all others, 1 or 2; 0 if there is none.
-pub fn first_refusal(literals: &[i16], ends: &[u16], sets: &[u64], kinds: &[u8], state: State) -> u16
+pub fn first_refusal(
+    literals: &[i16],
+    ends: &[u16],
+    sets: &[u64],
+    kinds: &[u8],
+    state: State,
+) -> u16
     ensures { λ r. ⌜ r ≡ unusableNumber (tablesOf (now (literals .entry)) (now (ends .entry)) (now (sets .entry)) (now (kinds .entry))) state ⌝ }
 {
     if !long_enough(literals, ends, sets, kinds) {

@@ -166,5 +166,13 @@ module _ (t : Tables) (s : State) (c : ℕ) {n : ℕ} (told : n ≡ unusableNumb
     pub variable-told : (c ≡ 0 → ⊥) → c ≤ s .variables .0 → (k w i : ℕ) → k ≡ entry (t .kinds) c → w ≡ entry (t .sets) c → i ≡ size w → variable k i ≡ variableAnswer t s c
     unfolding askVariable
     variable-told nonzero known k w i a b d =
-        rw (← asked-variable, variable-test, no-or (eqb c 0) (ltb (s .variables .0) c) (ne-eqb c 0 nonzero) (le-ltb (s .variables .0) c known), a, d, b,
-            ← kind-told t s lent formed c known, ← set-told t s lent formed c known)
+        rw (
+          ← asked-variable,
+          variable-test,
+          no-or (eqb c 0) (ltb (s .variables .0) c) (ne-eqb c 0 nonzero) (le-ltb (s .variables .0) c known),
+          a,
+          d,
+          b,
+          ← kind-told t s lent formed c known,
+          ← set-told t s lent formed c known,
+        )

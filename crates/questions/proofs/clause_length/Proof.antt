@@ -1,67 +1,62 @@
-use Prim.Native.Nat.{_≤_}
+-- `questions::clause_length` meets its contract. Assumes nothing.
 use native.Mathlib.Omega.{arith}
 use borrow.Author.Needs.{needs}
+use Rattle.tables.specs.Tables.{Tables, tablesOf}
 use Rattle.questions.specs.Answers.{lengthTold}
 use Rattle.questions.proofs.Laws.Outcomes.{length-refused, clause-zero, clause-past, length-unknown, range-asks, range-ordered, range-short, length-told}
 use Rattle.questions.proofs.clause_length.Statement.{statement}
 use Rattle.questions.proofs.clause_length.Tie as tie
-use Rattle.questions.proofs.clause_length.Reads as reads
-use Rattle.questions.proofs.clause_length.Lts as lts
-use Rattle.tables.proofs.entries.clause_range.Reads as clause-range-reads
-use Rattle.tables.proofs.formed.first_refusal.Reads as first-refusal-reads
 
--- src/lib.rt:51:9
+-- the lent tables
+abbrev lent : (c : tie.After-first-refusal) → Tables
+lent c = let a = c .before .before .before .before .args in tablesOf (a .literals .now) (a .ends .now) (a .sets .now) (a .kinds .now)
+
 first-refusal-requires : tie.Need-first-refusal-requires
 first-refusal-requires c κs = search needs
 
--- src/lib.rt:53:9
 returns : tie.Need-returns
 unfolding lengthTold
-returns c = length-refused _ _ _ (c .before .first-refusal .ensures) (c .if1 .taken)
+returns c = length-refused (lent (c .before)) _ _ (c .before .first-refusal .ensures) (c .if1 .taken)
 
--- src/lib.rt:57:9
 returns-2 : tie.Need-returns-2
 unfolding lengthTold
 returns-2 c =
-    let told = c .before .before .before .before .first-refusal .ensures in
-    length-unknown _ _ _ told (c .before .before .before .if1 .left) (clause-zero _ _ _ told (c .before .before .before .if1 .left) (c .if2 .taken))
+    let at-if1 = c .before .before .before in
+    let at-first-refusal = at-if1 .before in
+    let told = at-first-refusal .first-refusal .ensures in
+    length-unknown (lent at-first-refusal) _ _ told (at-if1 .if1 .left) (clause-zero (lent at-first-refusal) _ _ told (at-if1 .if1 .left) (c .if2 .taken))
 
--- src/lib.rt:60:9
 returns-3 : tie.Need-returns-3
 unfolding lengthTold
 returns-3 c =
     let at-if1 = c .before .before .before .before .before .before in
     let at-first-refusal = at-if1 .before in
     let told = at-first-refusal .first-refusal .ensures in
-    length-unknown _ _ _ told (at-if1 .if1 .left) (clause-past _ _ _ told (at-if1 .if1 .left) (c .if3 .taken))
+    length-unknown (lent at-first-refusal) _ _ told (at-if1 .if1 .left) (clause-past (lent at-first-refusal) _ _ told (at-if1 .if1 .left) (c .if3 .taken))
 
--- src/lib.rt:62:9
 clause-range-requires : tie.Need-clause-range-requires
 clause-range-requires c κs =
     let at-if2 = c .before .before .before in
     let at-if1 = at-if2 .before .before .before in
     let at-first-refusal = at-if1 .before in
-    range-asks _ _ _ (at-first-refusal .first-refusal .ensures) (at-if1 .if1 .left) (at-if2 .if2 .left) (c .if3 .left)
+    range-asks (lent at-first-refusal) _ _ (at-first-refusal .first-refusal .ensures) (at-if1 .if1 .left) (at-if2 .if2 .left) (c .if3 .left)
 
--- src/lib.rt:63:27
 sub-t11 : tie.Need-sub-t11
 sub-t11 c =
     let at-if3 = c .before .before in
     let at-if2 = at-if3 .before .before .before in
     let at-if1 = at-if2 .before .before .before in
     let at-first-refusal = at-if1 .before in
-    range-ordered _ _ _ (at-first-refusal .first-refusal .ensures) (at-if1 .if1 .left) (at-if2 .if2 .left) (at-if3 .if3 .left) _ _ (c .before .clause-range .ensures .0) (c .before .clause-range .ensures .1)
+    range-ordered (lent at-first-refusal) _ _ (at-first-refusal .first-refusal .ensures) (at-if1 .if1 .left) (at-if2 .if2 .left) (at-if3 .if3 .left) _ _ (c .before .clause-range .ensures .0) (c .before .clause-range .ensures .1)
 
--- src/lib.rt:63:26
 cast-t12 : tie.Need-cast-t12
 cast-t12 c =
     let at-if3 = c .before .before in
     let at-if2 = at-if3 .before .before .before in
     let at-if1 = at-if2 .before .before .before in
     let at-first-refusal = at-if1 .before in
-    omega (arith, range-short _ _ _ (at-first-refusal .first-refusal .ensures) (at-if1 .if1 .left) (at-if2 .if2 .left) (at-if3 .if3 .left) _ _ (c .before .clause-range .ensures .0) (c .before .clause-range .ensures .1))
+    omega (arith, range-short (lent at-first-refusal) _ _ (at-first-refusal .first-refusal .ensures) (at-if1 .if1 .left) (at-if2 .if2 .left) (at-if3 .if3 .left) _ _ (c .before .clause-range .ensures .0) (c .before .clause-range .ensures .1))
 
--- src/lib.rt:48:1
 returns-4 : tie.Need-returns-4
 unfolding lengthTold
 returns-4 c =
@@ -69,7 +64,7 @@ returns-4 c =
     let at-if2 = at-if3 .before .before .before in
     let at-if1 = at-if2 .before .before .before in
     let at-first-refusal = at-if1 .before in
-    length-told _ _ _ (at-first-refusal .first-refusal .ensures) (at-if1 .if1 .left) (at-if2 .if2 .left) (at-if3 .if3 .left) _ _ (c .before .clause-range .ensures .0) (c .before .clause-range .ensures .1)
+    length-told (lent at-first-refusal) _ _ (at-first-refusal .first-refusal .ensures) (at-if1 .if1 .left) (at-if2 .if2 .left) (at-if3 .if3 .left) _ _ (c .before .clause-range .ensures .0) (c .before .clause-range .ensures .1)
 
 pub clause-length-spec : {M : Type 1} → statement M
 clause-length-spec =

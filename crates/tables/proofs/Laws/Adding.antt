@@ -3,15 +3,16 @@
 --     One, Two, Formula             an addition of one clause; of two clauses and a variable; one more formula clause
 --     one-clause, two-clauses       of well-formed tables, after a step's entries were stored
 --     formula-clause                the same for the reader, as long as there is no step
---     clause-room, ..               what the leaves require
+--     room-is, room-told, room-one, room-two, step-room        what the leaves require
 -- Assumes nothing.
 use mathlib.Core.Path.{_≡_, refl, ap, sym, _∙_}
-use mathlib.Core.Bool.{Bool, true, false, cond, _&&_}
+use mathlib.Core.Bool.{Bool, true, false, cond, _&&_, _||_}
 use mathlib.Core.List.{List, [], _∷_, _++_, append-assoc, append-nil}
 use Prim.Native.Nat.{ℕ, zero, suc, _+_, _-_, _≤_, _<_}
 use native.Mathlib.Nat.{zero-add, add-zero}
 use native.Mathlib.Omega.{arith}
-use lib.Dec.{eqb, eqb·suc-zero}
+use borrow.Author.Tests.{ltb-false}
+use lib.Dec.{eqb, ltb, eqb·suc-zero}
 use lib.IntN.{ℤ, pos}
 use lib.ListN.{length, take, drop, set, replicate, length-append, length-replicate, length-set, replicate-append-replicate}
 use Rattle.dqbf.specs.Limits.{clauseLimit, literalLimit, variableLimit, tables}
@@ -21,6 +22,7 @@ use Rattle.dqbf.specs.Model.{Model, clauses, used, steps, universalCount, empty
 use Rattle.dqbf.specs.Valid.{Valid}
 use Rattle.dqbf.specs.Rules.{Addition, add, noRoom}
 use Rattle.dqbf.specs.Published.{Fits}
+use Rattle.dqbf.proofs.Laws.Tests.{or-no}
 use Rattle.dqbf.proofs.Laws.Models.{more-clauses, total-append, used-more}
 use Rattle.tables.specs.declared.State.{State}
 use Rattle.tables.specs.Tables.{Tables, tablesOf, modelIn}
@@ -155,6 +157,18 @@ module _ (m : Model) (v : Valid tables m) where
       omega (arith, v .made, length-append (m .derived) (C ∷ D ∷ []), length-append (m .forks) (s ∷ [])) in
       rw (more-clauses m (Two C D s), ← append-assoc (clauses m) (C ∷ []) (D ∷ []), empty-more (clauses m) C, length-one (clauses m) C, total-one (clauses m) C)
       (by-counts _ _ refl variables refl refl (length-one Cs D) (total-one Cs D) made (empty-more Cs D))
+
+-- ---- room, by the test and as facts
+
+pub room-is : (s : State) (a b c : ℕ) → full s a b c ≡ false → RoomFor s a b c
+unfolding full
+room-is s a b c e =
+    let x = ltb clauseLimit (s .clauses .0 + a) in
+    let y = ltb literalLimit (s .literals + b) in
+    let z = ltb variableLimit (s .variables .0 + c) in
+    let xy = or-no (x || y) z e in
+    let both = or-no x y (xy .0) in
+    record { clauses-fit = ltb-false _ _ (both .0); literals-fit = ltb-false _ _ (both .1); variables-fit = ltb-false _ _ (xy .1) }
 
 -- ---- room for what comes next, and the steps
 

@@ -156,10 +156,10 @@ module _ (t : Tables) (s : State) where
 
   -- each test told by an answer that was not false
   pub rest-decides : {a b c r : Bool} → a ≡ countsFit s → not a ≡ false → b ≡ clauseTests → not b ≡ false
-    → c ≡ variablesFit (s .bound .0) (s .universals) (kindsIn t s) (setsIn t s) → not c ≡ false → r ≡ restZero t s → r ≡ wellFormed t s
+      → c ≡ variablesFit (s .bound .0) (s .universals) (kindsIn t s) (setsIn t s) → not c ≡ false → r ≡ restZero t s → r ≡ wellFormed t s
   unfolding wellFormed emptyTold
   rest-decides p a q b w c r =
       let clauses = sym q ∙ not-false _ b in
       r ∙ every-last (countsFit s ∷ endsRise 0 (endsIn t s) (s .literals) ∷ clausesFit (s .formula .0) (kindsIn t s) (clausesIn t s)
-        ∷ variablesFit (s .bound .0) (s .universals) (kindsIn t s) (setsIn t s) ∷ emptyTold s (clausesIn t s) ∷ []) (restZero t s)
-        (sym p ∙ not-false _ a, (every-at _ clauses 0, (every-at _ clauses 1, (sym w ∙ not-false _ c, (every-at _ clauses 2, tt)))))
+      ∷ variablesFit (s .bound .0) (s .universals) (kindsIn t s) (setsIn t s) ∷ emptyTold s (clausesIn t s) ∷ []) (restZero t s)
+      (sym p ∙ not-false _ a, (every-at _ clauses 0, (every-at _ clauses 1, (sym w ∙ not-false _ c, (every-at _ clauses 2, tt)))))

@@ -198,13 +198,13 @@ module _ (declared : Bool) (places k s : ℕ) where
     unfolding variableFits otherInside isKind undeclaredBare every
     variable-undeclared z = rw (e, z) (sym (and-true (eqb s 0)))
 
-    pub variable-universal : k ≡ 1 → variableFits declared places k s ≡ true
+    pub variable-universal : (k ≡ 0 → ⊥) → k < 2 → variableFits declared places k s ≡ true
     unfolding variableFits otherInside isKind undeclaredBare every
-    variable-universal z = rw (e, z)
+    variable-universal n l = let one : k ≡ 1 = omega (arith, n) in rw (e, one)
 
-    pub variable-other : (k ≡ 0 → ⊥) → (k ≡ 1 → ⊥) → inside s places ≡ variableFits declared places k s
+    pub variable-other : 2 ≤ k → inside s places ≡ variableFits declared places k s
     unfolding variableFits otherInside isKind undeclaredBare every
-    variable-other n o = rw (e, le-leb 2 k (omega (arith, n, o)), le-leb k 3 h, ne-eqb k 0 n) (sym (and-true (inside s places)))
+    variable-other l = rw (e, le-leb 2 k l, le-leb k 3 h, ne-eqb k 0 (λ z. absurd (omega arith))) (sym (and-true (inside s places)))
 
 -- ---- the kinds and sets
 

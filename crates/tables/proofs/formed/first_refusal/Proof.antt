@@ -1,31 +1,23 @@
+-- `tables::formed::first_refusal` meets its contract. Assumes nothing.
 use mathlib.Core.Path.{_≡_, sym, _∙_}
 use borrow.Author.Needs.{needs}
 use borrow.Author.Tests.{not-true, not-false}
 use Rattle.tables.proofs.Laws.Unusable.{number-short, number-ill, number-none}
 use Rattle.tables.proofs.formed.first_refusal.Statement.{statement}
 use Rattle.tables.proofs.formed.first_refusal.Tie as tie
-use Rattle.tables.proofs.formed.first_refusal.Reads as reads
-use Rattle.tables.proofs.formed.first_refusal.Lts as lts
-use Rattle.tables.proofs.formed.long_enough.Reads as long-enough-reads
-use Rattle.tables.proofs.formed.well_formed.Reads as well-formed-reads
 
--- src/formed.rt:296:9
 long-enough-requires : tie.Need-long-enough-requires
 long-enough-requires c κs = search needs
 
--- src/formed.rt:297:9
 returns : tie.Need-returns
 returns c = number-short _ _ (sym (c .before .long-enough .ensures) ∙ not-true _ (c .if1 .taken))
 
--- src/formed.rt:299:9
 well-formed-requires : tie.Need-well-formed-requires
 well-formed-requires c κs = sym (c .before .long-enough .ensures) ∙ not-false _ (c .if1 .left)
 
--- src/formed.rt:300:9
 returns-2 : tie.Need-returns-2
 returns-2 c = number-ill _ _ (sym (c .before .before .before .long-enough .ensures) ∙ not-false _ (c .before .before .if1 .left)) (sym (c .before .well-formed .ensures) ∙ not-true _ (c .if2 .taken))
 
--- src/formed.rt:293:1
 returns-3 : tie.Need-returns-3
 returns-3 c = number-none _ _ (sym (c .before .before .before .long-enough .ensures) ∙ not-false _ (c .before .before .if1 .left)) (sym (c .before .well-formed .ensures) ∙ not-false _ (c .if2 .left))
 

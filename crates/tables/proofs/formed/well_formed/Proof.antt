@@ -27,13 +27,13 @@ slice-aggregate-clauses-fit : tie.Need-slice-aggregate-clauses-fit
 slice-aggregate-clauses-fit c =
     let at-if1 = c .before .before .before .before .before .before .before .before in
     let start = at-if1 .before .before .before .before .before in
-    sym (ends-in _ _ (long-is _ (start .pre)) (counted (at-if1)))
+    sym (ends-in _ _ (long-is _ (start .pre)) (counted at-if1))
 
 slice-aggregate-clauses-fit-2 : tie.Need-slice-aggregate-clauses-fit-2
 slice-aggregate-clauses-fit-2 c =
     let at-if1 = c .before .before .before .before .before .before .before .before .before in
     let start = at-if1 .before .before .before .before .before in
-    sym (kinds-in _ _ (long-is _ (start .pre)) (counted (at-if1)))
+    sym (kinds-in _ _ (long-is _ (start .pre)) (counted at-if1))
 
 cast-clauses-fit : tie.Need-cast-clauses-fit
 cast-clauses-fit c = search needs
@@ -42,7 +42,7 @@ clauses-fit-requires : tie.Need-clauses-fit-requires
 clauses-fit-requires c κs =
     let at-if1 = c .before .before .before .before .before .before .before .before .before .before in
     let start = at-if1 .before .before .before .before .before in
-    let k = counted (at-if1) in
+    let k = counted at-if1 in
     let l = long-is _ (start .pre) in
     (omega (arith, k .literals, l .literals), omega (arith, ends-in _ _ l k, k .clauses))
 
@@ -53,13 +53,13 @@ slice-aggregate-variables-fit : tie.Need-slice-aggregate-variables-fit
 slice-aggregate-variables-fit c =
     let at-if1 = c .before .before .before .before .before .before .before .before .before .before .before .before .before in
     let start = at-if1 .before .before .before .before .before in
-    sym (kinds-in _ _ (long-is _ (start .pre)) (counted (at-if1)))
+    sym (kinds-in _ _ (long-is _ (start .pre)) (counted at-if1))
 
 slice-aggregate-variables-fit-2 : tie.Need-slice-aggregate-variables-fit-2
 slice-aggregate-variables-fit-2 c =
     let at-if1 = c .before .before .before .before .before .before .before .before .before .before .before .before .before .before in
     let start = at-if1 .before .before .before .before .before in
-    sym (sets-in _ _ (long-is _ (start .pre)) (counted (at-if1)))
+    sym (sets-in _ _ (long-is _ (start .pre)) (counted at-if1))
 
 cast-variables-fit : tie.Need-cast-variables-fit
 cast-variables-fit c = search needs
@@ -68,7 +68,7 @@ variables-fit-requires : tie.Need-variables-fit-requires
 variables-fit-requires c κs =
     let at-if1 = c .before .before .before .before .before .before .before .before .before .before .before .before .before .before .before in
     let start = at-if1 .before .before .before .before .before in
-    let k = counted (at-if1) in
+    let k = counted at-if1 in
     let l = long-is _ (start .pre) in
     (k .universals, sets-in _ _ l k ∙ sym (kinds-in _ _ l k))
 
