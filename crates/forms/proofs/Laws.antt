@@ -1,0 +1,9 @@
+-- Laws of the definitions, and the working definitions as the calculus' own
+pub mod Pieces
+pub mod Numbers
+pub mod Bridge
+pub mod Gathering
+pub mod Forms
+pub mod Insertion
+pub mod Sorting
+pub mod Ranks

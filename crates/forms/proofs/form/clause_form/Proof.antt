@@ -1,0 +1,39 @@
+use borrow.Author.Needs.{needs}
+use Rattle.forms.proofs.form.clause_form.Statement.{statement}
+use Rattle.forms.proofs.form.clause_form.Tie as tie
+use Rattle.forms.proofs.form.clause_form.Reads as reads
+use Rattle.forms.proofs.form.clause_form.Lts as lts
+use Rattle.forms.proofs.form.gather.Reads as gather-reads
+
+-- src/form.rt:160:9
+gather-requires : tie.Need-gather-requires
+gather-requires c κs = search needs
+
+-- src/form.rt:161:26
+enum-known-a : tie.Need-enum-known-a
+enum-known-a c = search needs
+
+-- src/form.rt:162:9
+enum-told : tie.Need-enum-told
+enum-told c = search needs
+
+-- src/form.rt:162:9
+same-length : tie.Need-same-length
+same-length c = search needs
+
+-- src/form.rt:162:9
+returns : tie.Need-returns
+returns c = ?
+
+-- src/form.rt:156:1
+same-length-2 : tie.Need-same-length-2
+same-length-2 c = search needs
+
+-- src/form.rt:156:1
+returns-2 : tie.Need-returns-2
+returns-2 c = ?
+
+pub clause-form-spec : {M : Type 1} → statement M
+clause-form-spec =
+    tie.close
+    (tie.spec gather-requires enum-known-a enum-told same-length returns same-length-2 returns-2)

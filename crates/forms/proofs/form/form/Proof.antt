@@ -1,0 +1,51 @@
+use borrow.Author.Needs.{needs}
+use Rattle.forms.proofs.form.form.Statement.{statement}
+use Rattle.forms.proofs.form.form.Tie as tie
+use Rattle.forms.proofs.form.form.Reads as reads
+use Rattle.forms.proofs.form.form.Lts as lts
+use Rattle.forms.proofs.form.tokens_form.Reads as tokens-form-reads
+
+-- src/form.rt:209:9
+returns : tie.Need-returns
+returns c = ?
+
+-- src/form.rt:211:8
+shared-slice-read-if2 : tie.Need-shared-slice-read-if2
+shared-slice-read-if2 c = search needs
+
+-- src/form.rt:212:9
+returns-2 : tie.Need-returns-2
+returns-2 c = ?
+
+-- src/form.rt:214:8
+shared-slice-read-if3 : tie.Need-shared-slice-read-if3
+shared-slice-read-if3 c = search needs
+
+-- src/form.rt:215:9
+returns-3 : tie.Need-returns-3
+returns-3 c = ?
+
+-- src/form.rt:217:5
+tokens-form-requires : tie.Need-tokens-form-requires
+tokens-form-requires c κs = search needs
+
+-- src/form.rt:204:1
+same-length : tie.Need-same-length
+same-length c = search needs
+
+-- src/form.rt:204:1
+returns-4 : tie.Need-returns-4
+returns-4 c = ?
+
+pub form-spec : {M : Type 1} → statement M
+form-spec =
+    tie.close
+    (tie.spec
+    returns
+    shared-slice-read-if2
+    returns-2
+    shared-slice-read-if3
+    returns-3
+    tokens-form-requires
+    same-length
+    returns-4)

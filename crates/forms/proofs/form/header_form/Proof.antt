@@ -1,0 +1,134 @@
+use borrow.Author.Needs.{needs}
+use Rattle.forms.proofs.form.header_form.Statement.{statement}
+use Rattle.forms.proofs.form.header_form.Tie as tie
+use Rattle.forms.proofs.form.header_form.Reads as reads
+use Rattle.forms.proofs.form.header_form.Lts as lts
+use Rattle.forms.proofs.form.header_shape.Reads as header-shape-reads
+use Rattle.forms.proofs.form.is_cnf.Reads as is-cnf-reads
+use Rattle.forms.proofs.number.number.Reads as number-reads
+use Rattle.forms.proofs.text.next_token.Reads as next-token-reads
+
+-- src/form.rt:98:9
+returns : tie.Need-returns
+returns c = ?
+
+-- src/form.rt:100:43
+add-next-token : tie.Need-add-next-token
+add-next-token c = search needs
+
+-- src/form.rt:100:9
+next-token-requires : tie.Need-next-token-requires
+next-token-requires c κs = search needs
+
+-- src/form.rt:104:9
+returns-2 : tie.Need-returns-2
+returns-2 c = ?
+
+-- src/form.rt:106:22
+sub-is-cnf : tie.Need-sub-is-cnf
+sub-is-cnf c = search needs
+
+-- src/form.rt:106:22
+part-is-cnf-start : tie.Need-part-is-cnf-start
+part-is-cnf-start c = search needs
+
+-- src/form.rt:106:22
+part-is-cnf-end : tie.Need-part-is-cnf-end
+part-is-cnf-end c = search needs
+
+-- src/form.rt:106:9
+is-cnf-requires : tie.Need-is-cnf-requires
+is-cnf-requires c κs = search needs
+
+-- src/form.rt:107:44
+add-next-token-2 : tie.Need-add-next-token-2
+add-next-token-2 c = search needs
+
+-- src/form.rt:107:9
+next-token-requires-2 : tie.Need-next-token-requires-2
+next-token-requires-2 c κs = search needs
+
+-- src/form.rt:111:9
+returns-3 : tie.Need-returns-3
+returns-3 c = ?
+
+-- src/form.rt:113:35
+sub-number : tie.Need-sub-number
+sub-number c = search needs
+
+-- src/form.rt:113:35
+part-number-start : tie.Need-part-number-start
+part-number-start c = search needs
+
+-- src/form.rt:113:35
+part-number-end : tie.Need-part-number-end
+part-number-end c = search needs
+
+-- src/form.rt:113:9
+number-requires : tie.Need-number-requires
+number-requires c κs = search needs
+
+-- src/form.rt:114:44
+add-next-token-3 : tie.Need-add-next-token-3
+add-next-token-3 c = search needs
+
+-- src/form.rt:114:9
+next-token-requires-3 : tie.Need-next-token-requires-3
+next-token-requires-3 c κs = search needs
+
+-- src/form.rt:118:9
+returns-4 : tie.Need-returns-4
+returns-4 c = ?
+
+-- src/form.rt:120:35
+sub-number-2 : tie.Need-sub-number-2
+sub-number-2 c = search needs
+
+-- src/form.rt:120:35
+part-number-start-2 : tie.Need-part-number-start-2
+part-number-start-2 c = search needs
+
+-- src/form.rt:120:35
+part-number-end-2 : tie.Need-part-number-end-2
+part-number-end-2 c = search needs
+
+-- src/form.rt:120:9
+number-requires-2 : tie.Need-number-requires-2
+number-requires-2 c κs = search needs
+
+-- src/form.rt:121:5
+header-shape-requires : tie.Need-header-shape-requires
+header-shape-requires c κs = search needs
+
+-- src/form.rt:93:1
+returns-5 : tie.Need-returns-5
+returns-5 c = ?
+
+pub header-form-spec : {M : Type 1} → statement M
+header-form-spec =
+    tie.close
+    (tie.spec
+    returns
+    add-next-token
+    next-token-requires
+    returns-2
+    sub-is-cnf
+    part-is-cnf-start
+    part-is-cnf-end
+    is-cnf-requires
+    add-next-token-2
+    next-token-requires-2
+    returns-3
+    sub-number
+    part-number-start
+    part-number-end
+    number-requires
+    add-next-token-3
+    next-token-requires-3
+    returns-4
+    sub-number-2
+    part-number-start-2
+    part-number-end-2
+    number-requires-2
+    header-shape-requires
+    returns-5)

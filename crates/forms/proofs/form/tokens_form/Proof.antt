@@ -1,0 +1,140 @@
+use borrow.Author.Needs.{needs}
+use Rattle.forms.proofs.form.tokens_form.Statement.{statement}
+use Rattle.forms.proofs.form.tokens_form.Tie as tie
+use Rattle.forms.proofs.form.tokens_form.Reads as reads
+use Rattle.forms.proofs.form.tokens_form.Lts as lts
+use Rattle.forms.proofs.form.clause_form.Reads as clause-form-reads
+use Rattle.forms.proofs.form.header_form.Reads as header-form-reads
+use Rattle.forms.proofs.form.keyword_byte.Reads as keyword-byte-reads
+use Rattle.forms.proofs.form.variables.Reads as variables-reads
+use Rattle.forms.proofs.text.next_token.Reads as next-token-reads
+
+-- src/form.rt:172:9
+next-token-requires : tie.Need-next-token-requires
+next-token-requires c κs = search needs
+
+-- src/form.rt:175:26
+sub-keyword-byte : tie.Need-sub-keyword-byte
+sub-keyword-byte c = search needs
+
+-- src/form.rt:175:26
+part-keyword-byte-start : tie.Need-part-keyword-byte-start
+part-keyword-byte-start c = search needs
+
+-- src/form.rt:175:26
+part-keyword-byte-end : tie.Need-part-keyword-byte-end
+part-keyword-byte-end c = search needs
+
+-- src/form.rt:175:9
+keyword-byte-requires : tie.Need-keyword-byte-requires
+keyword-byte-requires c κs = search needs
+
+-- src/form.rt:177:9
+header-form-requires : tie.Need-header-form-requires
+header-form-requires c κs = search needs
+
+-- src/form.rt:177:9
+returns : tie.Need-returns
+returns c = ?
+
+-- src/form.rt:180:13
+variables-requires : tie.Need-variables-requires
+variables-requires c κs = search needs
+
+-- src/form.rt:182:13
+same-length : tie.Need-same-length
+same-length c = search needs
+
+-- src/form.rt:182:13
+returns-2 : tie.Need-returns-2
+returns-2 c = ?
+
+-- src/form.rt:184:9
+same-length-2 : tie.Need-same-length-2
+same-length-2 c = search needs
+
+-- src/form.rt:184:9
+returns-3 : tie.Need-returns-3
+returns-3 c = ?
+
+-- src/form.rt:187:13
+variables-requires-2 : tie.Need-variables-requires-2
+variables-requires-2 c κs = search needs
+
+-- src/form.rt:189:13
+same-length-3 : tie.Need-same-length-3
+same-length-3 c = search needs
+
+-- src/form.rt:189:13
+returns-4 : tie.Need-returns-4
+returns-4 c = ?
+
+-- src/form.rt:191:9
+same-length-4 : tie.Need-same-length-4
+same-length-4 c = search needs
+
+-- src/form.rt:191:9
+returns-5 : tie.Need-returns-5
+returns-5 c = ?
+
+-- src/form.rt:194:13
+variables-requires-3 : tie.Need-variables-requires-3
+variables-requires-3 c κs = search needs
+
+-- src/form.rt:196:13
+same-length-5 : tie.Need-same-length-5
+same-length-5 c = search needs
+
+-- src/form.rt:196:13
+returns-6 : tie.Need-returns-6
+returns-6 c = ?
+
+-- src/form.rt:198:9
+same-length-6 : tie.Need-same-length-6
+same-length-6 c = search needs
+
+-- src/form.rt:198:9
+returns-7 : tie.Need-returns-7
+returns-7 c = ?
+
+-- src/form.rt:200:5
+clause-form-requires : tie.Need-clause-form-requires
+clause-form-requires c κs = search needs
+
+-- src/form.rt:168:1
+same-length-7 : tie.Need-same-length-7
+same-length-7 c = search needs
+
+-- src/form.rt:168:1
+returns-8 : tie.Need-returns-8
+returns-8 c = ?
+
+pub tokens-form-spec : {M : Type 1} → statement M
+tokens-form-spec =
+    tie.close
+    (tie.spec
+    next-token-requires
+    sub-keyword-byte
+    part-keyword-byte-start
+    part-keyword-byte-end
+    keyword-byte-requires
+    header-form-requires
+    returns
+    variables-requires
+    same-length
+    returns-2
+    same-length-2
+    returns-3
+    variables-requires-2
+    same-length-3
+    returns-4
+    same-length-4
+    returns-5
+    variables-requires-3
+    same-length-5
+    returns-6
+    same-length-6
+    returns-7
+    clause-form-requires
+    same-length-7
+    returns-8)

@@ -1,0 +1,56 @@
+use borrow.Author.Needs.{needs}
+use Rattle.forms.proofs.form.variables.Statement.{statement}
+use Rattle.forms.proofs.form.variables.Tie as tie
+use Rattle.forms.proofs.form.variables.Reads as reads
+use Rattle.forms.proofs.form.variables.Lts as lts
+use Rattle.forms.proofs.form.gather.Reads as gather-reads
+
+-- src/form.rt:146:9
+returns : tie.Need-returns
+returns c = ?
+
+-- src/form.rt:148:26
+add-gather : tie.Need-add-gather
+add-gather c = search needs
+
+-- src/form.rt:148:9
+gather-requires : tie.Need-gather-requires
+gather-requires c κs = search needs
+
+-- src/form.rt:149:26
+enum-known-a : tie.Need-enum-known-a
+enum-known-a c = search needs
+
+-- src/form.rt:150:9
+enum-told : tie.Need-enum-told
+enum-told c = search needs
+
+-- src/form.rt:150:9
+same-length : tie.Need-same-length
+same-length c = search needs
+
+-- src/form.rt:150:9
+returns-2 : tie.Need-returns-2
+returns-2 c = ?
+
+-- src/form.rt:141:1
+same-length-2 : tie.Need-same-length-2
+same-length-2 c = search needs
+
+-- src/form.rt:141:1
+returns-3 : tie.Need-returns-3
+returns-3 c = ?
+
+pub variables-spec : {M : Type 1} → statement M
+variables-spec =
+    tie.close
+    (tie.spec
+    returns
+    add-gather
+    gather-requires
+    enum-known-a
+    enum-told
+    same-length
+    returns-2
+    same-length-2
+    returns-3)

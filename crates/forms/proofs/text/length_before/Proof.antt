@@ -1,0 +1,59 @@
+use mathlib.Core.Path.{_≡_, refl, sym, ap, _∙_}
+use Prim.Native.Nat.{ℕ, suc, _+_, _-_, _*_, _^_, _≤_, _<_}
+use native.Mathlib.Omega.{arith}
+use borrow.Author.Needs.{needs}
+use lib.ListN.{length, take, drop, getD, set}
+use Rattle.forms.specs.Working.{lengthBefore}
+use Rattle.forms.proofs.Laws.Pieces.{before-hit, before-miss, before-end}
+use Rattle.forms.proofs.text.length_before.Statement.{statement}
+use Rattle.forms.proofs.text.length_before.Tie as tie
+use Rattle.forms.proofs.text.length_before.Reads as reads
+use Rattle.forms.proofs.text.length_before.Lts as lts
+
+abbrev Inv-loop : tie.InvT-loop
+Inv-loop bytes b i₀ i = (i ≤ length bytes) × (lengthBefore b bytes ≡ i + lengthBefore b (drop i bytes))
+
+abbrev μ-loop : tie.MeasureT-loop
+μ-loop bytes b i₀ i = length bytes - i
+
+-- src/text.rt:14:5
+loop-holds : tie.Need-loop-holds Inv-loop μ-loop
+loop-holds c = (omega arith, omega arith)
+
+-- src/text.rt:15:12
+shared-slice-read-if1 : tie.Need-shared-slice-read-if1 Inv-loop μ-loop
+shared-slice-read-if1 c = omega arith
+
+-- src/text.rt:16:13
+returns : tie.Need-returns Inv-loop μ-loop
+returns c = omega (arith, before-hit (c .before .before .before .before .args .b) (c .before .before .before .before .args .bytes .now) (c .before .before .before .loop .i) (c .before .before .loop-test .taken) (c .if1 .taken))
+
+-- src/text.rt:18:9
+add-i : tie.Need-add-i Inv-loop μ-loop
+add-i c = omega arith
+
+-- src/text.rt:14:5
+loop-less : tie.Need-loop-less Inv-loop μ-loop
+loop-less c = omega arith
+
+-- src/text.rt:14:5
+loop-again : tie.Need-loop-again Inv-loop μ-loop
+loop-again c = (omega arith, omega (arith, before-miss (c .before .before .before .before .args .b) (c .before .before .before .before .args .bytes .now) (c .before .before .before .loop .i) (c .before .before .loop-test .taken) (c .if1 .left)))
+
+-- src/text.rt:10:1
+returns-2 : tie.Need-returns-2 Inv-loop μ-loop
+returns-2 c = omega (arith, before-end (c .before .before .args .b) (c .before .before .args .bytes .now) (c .before .loop .i) (omega arith))
+
+pub length-before-spec : {M : Type 1} → statement M
+length-before-spec =
+    tie.close
+    (tie.spec
+    Inv-loop
+    μ-loop
+    loop-holds
+    shared-slice-read-if1
+    returns
+    add-i
+    loop-less
+    loop-again
+    returns-2)

@@ -1,0 +1,4 @@
+pub mod Shapes
+pub mod Order
+pub mod Ranks
+pub mod Working
