@@ -3,3 +3,6 @@ pub mod Rows
 pub mod Pending
 pub mod Models
 pub mod Finishing
+pub mod Reading
+pub mod Fresh
+pub mod Declaring

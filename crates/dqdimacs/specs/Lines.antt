@@ -1,24 +1,22 @@
 -- The lines read so far, as the code carries them: a reader of the calculus (dqbf, specs/Reading.antt) that the tables and a `Progress` by value hold.
 --     phaseNumber, progressOf        a reader by value
 --     refusalOf                      a number of refusal, 0 for none, as the first test that applies
---     ReadSoFar, Known, LineRead     what the tables hold between two lines, and behind a line
--- Assumes nothing.
+--     ReadSoFar, LineRead            what the tables hold between two lines, and behind a line
+--     onLine, universalAdded, DeclaredAll     variables of an `a` or an `e` line declared one after the other
 use mathlib.Core.Path.{_≡_}
-use mathlib.Core.Bool.{true}
-use mathlib.Core.List.{List, []}
+use mathlib.Core.Bool.{Bool, true, false, cond}
+use mathlib.Core.List.{List, [], map}
 use mathlib.Core.Option.{Option, none, some}
-use Prim.Native.Nat.{ℕ, zero, suc, _≤_}
-use lib.IntN.{ℤ}
-use lib.ListN.{length, take}
-use Rattle.dqbf.specs.Limits.{variableLimit, universalLimit, clauseLimit, literalLimit}
+use Prim.Native.Nat.{ℕ, zero, suc, _+_, _≤_}
+use lib.ListN.{length}
 use Rattle.dqbf.specs.Refusal.{Refusal, refusal, first}
-use Rattle.dqbf.specs.Set.{Set}
-use Rattle.dqbf.specs.Formula.{universals}
+use Rattle.dqbf.specs.Set.{Set, union}
+use Rattle.dqbf.specs.Formula.{Declaration, onA, onE, universals, declared}
 use Rattle.dqbf.specs.Model.{wordOf}
-use Rattle.dqbf.specs.Reading.{Form, Phase, opening, prefixLines, clauseLines, Reader, start, lineTests, taken}
+use Rattle.dqbf.specs.Reading.{Form, Phase, opening, prefixLines, clauseLines, Reader, start, fresh, lineTests, declaring, taken}
 use Rattle.dqbf.proofs.Reading.Lines.{Sane}
-use Rattle.tables.specs.Tables.{Tables, tablesOf}
-use Rattle.tables.specs.Spread.{spread, stateOf, blank}
+use Rattle.tables.specs.Tables.{Tables}
+use Rattle.tables.specs.Spread.{spread, stateOf}
 use Rattle.tables.specs.WellFormed.{long}
 use Rattle.dqdimacs.specs.Pending.{pending}
 use Rattle.dqdimacs.specs.declared.progress.Progress.{Progress}
@@ -49,3 +47,42 @@ pub record ReadSoFar (t : Tables) (r : Reader) (p : Progress) (now : Tables) : T
   pub few : length (r .formula .clauses) ≤ r .count
   pub progress : p ≡ progressOf r
   pub tables : now ≡ spread (pending (r .formula)) t
+
+-- A line of a form was read: its first test that applies, and what the tables hold where none does.
+pub record LineRead (t : Tables) (r : Reader) (f : Form) (a : LineAnswer) (now : Tables) : Type 0 where
+  pub told : first (lineTests r f) ≡ refusalOf (a .refusal)
+  pub held : a .refusal ≡ 0 → ReadSoFar t (taken r f) (a .progress) now
+
+-- ---- variables of an `a` line (true) or an `e` line, one after the other
+
+unfoldable pub onLine : Bool → ℕ → Declaration
+onLine true x = onA x
+onLine false x = onE x
+
+-- one universal more, with its set
+unfoldable pub universalAdded : Progress → Set → Progress
+universalAdded p s = record {
+  phase = p .phase;
+  count = p .count;
+  places = union (p .places) s;
+  state = record {
+    bound = p .state .bound;
+    variables = p .state .variables;
+    universals = p .state .universals + 1;
+    formula = p .state .formula;
+    clauses = p .state .clauses;
+    literals = p .state .literals;
+    steps = p .state .steps;
+    empty = p .state .empty;
+  };
+}
+
+-- 12: a variable is above V or declared twice
+pub record DeclaredAll (universal : Bool) (xs : List ℕ) (t : Tables) (r : Reader) (a : LineAnswer) (now : Tables) : Type 0 where
+  pub told : a .refusal ≡ cond (fresh (r .formula .bound) (declared (r .formula .prefix)) xs) 0 12
+  pub held : a .refusal ≡ 0 → ReadSoFar t (declaring r (map (onLine universal) xs)) (a .progress) now
+
+-- what one variable more leaves of the counts
+pub record OneMore (p : Progress) (a : LineAnswer) : Type 0 where
+  pub bound : a .progress .state .bound .0 ≡ p .state .bound .0
+  pub universals : a .progress .state .universals ≤ p .state .universals + 1

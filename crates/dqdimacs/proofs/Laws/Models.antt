@@ -2,7 +2,7 @@
 --     pending-kinds, pending-sets, ..      lengths and counts
 --     kind-entry, set-entry                kind and set of a variable by their entries
 --     kinds-declared, sets-declared        one declaration more: one entry changes
---     pending-clause                       one clause more
+--     map-more, pending-clause             one clause more
 --     pending-header                       the header: zeros
 -- Assumes nothing.
 use mathlib.Core.Path.{_≡_, refl, ap, sym, _∙_}
@@ -97,7 +97,7 @@ module _ (φ : Formula) (d : Declaration) (some : subject d ≡ 0 → ⊥) (low 
 
 -- ---- one clause more
 
-map-more : {A B : Type 0} (f : A → B) (xs : List A) (x : A) → map f (xs ++ (x ∷ [])) ≡ map f xs ++ (f x ∷ [])
+pub map-more : {A B : Type 0} (f : A → B) (xs : List A) (x : A) → map f (xs ++ (x ∷ [])) ≡ map f xs ++ (f x ∷ [])
 map-more f [] x = refl
 map-more f (y ∷ xs) x = ap (f y ∷_) (map-more f xs x)
 
