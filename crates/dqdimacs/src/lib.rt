@@ -13,4 +13,6 @@ pub struct Loaded {
     pub answer: LoadAnswer,
 }
 
+pub mod declarations;
 pub mod progress;
+pub mod refusal;

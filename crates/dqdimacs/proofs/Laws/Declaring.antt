@@ -11,7 +11,7 @@ use mathlib.Core.Option.{Option, none}
 use Prim.Native.Nat.{ℕ, zero, suc, _+_, _-_, _≤_, _<_}
 use native.Mathlib.Numerals.{add-one, sub-one}
 use native.Mathlib.Omega.{arith}
-use borrow.Author.Tests.{le-ltb, le-leb}
+use borrow.Author.Tests.{le-ltb, not-true, not-false}
 use lib.Dec.{leb, ltb, eqb}
 use lib.ListN.{length, getD, take, set, length-append, List·getD-append}
 use lib.Seq.{take-suc, take-all}
@@ -31,7 +31,7 @@ use Rattle.tables.specs.declared.State.{State}
 use Rattle.tables.proofs.Laws.Rows.{over-set}
 use Rattle.dqdimacs.specs.Pending.{subject, kindWhile, setWhile, given, pendingKind, pending}
 use Rattle.dqdimacs.specs.Rows.{declarable}
-use Rattle.dqdimacs.specs.Lines.{phaseNumber, progressOf, universalAdded, onLine, ReadSoFar, DeclaredAll}
+use Rattle.dqdimacs.specs.Lines.{phaseNumber, progressOf, universalAdded, onLine, ReadSoFar, DeclaredAll, OneMore}
 use Rattle.dqdimacs.specs.declared.progress.Progress.{Progress}
 use Rattle.dqdimacs.specs.declared.progress.LineAnswer.{LineAnswer}
 use Rattle.dqdimacs.proofs.Laws.Rows.{row-length, row-at}
@@ -67,8 +67,8 @@ not-universal ds x n = never (elem x (universalsOf ds)) (λ q. true≢false (sym
 -- ---- one declaration more, which a line of the form f makes
 
 module _ {t : Tables} {r : Reader} {p : Progress} {now : Tables} (h : ReadSoFar t r p now) (d : Declaration) (f : Form) (is : taken r f ≡ declaring r (d ∷ []))
-  (passes : first (lineTests r f) ≡ none) (positive : Positive f) (some : subject d ≡ 0 → ⊥) (low : subject d ≤ r .formula .bound)
-  (new : elem (subject d) (declared (r .formula .prefix)) ≡ false) where
+    (passes : first (lineTests r f) ≡ none) (positive : Positive f) (some : subject d ≡ 0 → ⊥) (low : subject d ≤ r .formula .bound)
+    (new : elem (subject d) (declared (r .formula .prefix)) ≡ false) where
   abbrev φ : Formula
   φ = r .formula
 
@@ -154,16 +154,16 @@ inside-prefix : {ph : Phase} → ph ≡ prefixLines → not (takesPrefix ph) ≡
 inside-prefix e = unfold takesPrefix in rw e
 
 module _ {t : Tables} {r : Reader} {p : Progress} {now : Tables} (h : ReadSoFar t r p now) (inside : r .phase ≡ prefixLines) (x : ℕ) (some : x ≡ 0 → ⊥)
-  {b : Bool} (told : b ≡ declarable (p .state .bound .0) (now .kinds) x) where
+    {b : Bool} (told : b ≡ declarable (p .state .bound .0) (now .kinds) x) where
   is-fresh : b ≡ fresh (r .formula .bound) (declared (r .formula .prefix)) (x ∷ [])
   is-fresh = told ∙ declarable-told h x some
 
-  pub one-refused : (universal : Bool) {a : LineAnswer} {now′ : Tables} → b ≡ false → a ≡ record { progress = p; refusal = 12 } → DeclaredAll universal (x ∷ []) t r a now′
-  one-refused universal e q = rw q (record { told = rw (← is-fresh, e); held = λ z. absurd (omega arith) })
+  pub one-refused : (universal : Bool) {now′ : Tables} → not b ≡ true → DeclaredAll universal (x ∷ []) t r (record { progress = p; refusal = 12 }) now′
+  one-refused universal e = record { told = rw (← is-fresh, not-true b e); held = λ z. absurd (omega arith) }
 
-  module _ (e : b ≡ true) where
+  module _ (e : not b ≡ false) where
     ok : fresh (r .formula .bound) (declared (r .formula .prefix)) (x ∷ []) ≡ true
-    ok = sym is-fresh ∙ e
+    ok = sym is-fresh ∙ not-false b e
 
     positive : (y : ℕ) → y ∈ x ∷ [] → y ≡ 0 → ⊥
     positive y q z = some (sym (List·Memᴰ·eq-of-singleton q) ∙ z)
@@ -179,14 +179,14 @@ module _ {t : Tables} {r : Reader} {p : Progress} {now : Tables} (h : ReadSoFar 
     unfolding lineTests undeclarable
     passes-e = pass _ _ _ (inside-prefix inside) (pass _ _ _ (no-not _ ok) no-tests)
 
-    pub one-universal : {a : LineAnswer} {s : Set} {sets kinds : List ℕ} → p .state .universals < universalLimit → s ≡ single (p .state .universals) → sets ≡ set (now .sets) (x - 1) s
-        → kinds ≡ set (now .kinds) (x - 1) 1 → a ≡ record { progress = universalAdded p s; refusal = 0 } → DeclaredAll true (x ∷ []) t r a (tablesOf (now .literals) (now .ends) sets kinds)
+    pub one-universal : {q : Progress} {s : Set} {sets kinds : List ℕ} → p .state .universals < universalLimit → s ≡ single (p .state .universals) → sets ≡ set (now .sets) (x - 1) s
+        → kinds ≡ set (now .kinds) (x - 1) 1 → q ≡ universalAdded p s → DeclaredAll true (x ∷ []) t r (record { progress = q; refusal = 0 }) (tablesOf (now .literals) (now .ends) sets kinds)
     unfolding onLine taken subject setWhile kindWhile universalsOf newOn
-    one-universal {a} {s} {sets} {kinds} u w m k q =
+    one-universal {q} {s} {sets} {kinds} u w m k f =
         let own : s ≡ single (place (universals (r .formula) ++ (x ∷ [])) x) =
         w ∙ ap single (universals-is h ∙ sym (place-new (universals (r .formula)) x (not-universal (r .formula .prefix) x new))) in
-        rw q (record {
-          told = rw (← is-fresh, e);
+        rw f (record {
+          told = rw ok;
           held = λ z. read-declared h (onA x) (aLine (x ∷ [])) refl (passes-a u) positive some low new
               (progress-universal h (onA x) (aLine (x ∷ [])) refl (passes-a u) positive some low new x refl inside w) (m ∙ rw own) k;
         })
@@ -197,21 +197,28 @@ module _ {t : Tables} {r : Reader} {p : Progress} {now : Tables} (h : ReadSoFar 
         new : elem x (declared (r .formula .prefix)) ≡ false
         new = fresh-new (r .formula .bound) (declared (r .formula .prefix)) x ok
 
-    pub one-existential : {a : LineAnswer} {sets kinds : List ℕ} → sets ≡ set (now .sets) (x - 1) 0 → kinds ≡ set (now .kinds) (x - 1) 4 → a ≡ record { progress = p; refusal = 0 }
-        → DeclaredAll false (x ∷ []) t r a (tablesOf (now .literals) (now .ends) sets kinds)
+    pub one-existential : {sets kinds : List ℕ} → sets ≡ set (now .sets) (x - 1) 0 → kinds ≡ set (now .kinds) (x - 1) 4
+        → DeclaredAll false (x ∷ []) t r (record { progress = p; refusal = 0 }) (tablesOf (now .literals) (now .ends) sets kinds)
     unfolding onLine taken subject setWhile kindWhile universalsOf newOn
-    one-existential {a} {sets} {kinds} m k q =
-        rw q (record {
-          told = rw (← is-fresh, e);
-          held = λ z. read-declared h (onE x) (eLine (x ∷ [])) refl passes-e positive some low new
-              (progress-other h (onE x) (eLine (x ∷ [])) refl passes-e positive some low new refl inside) m k;
-        })
+    one-existential m k = record {
+      told = rw ok;
+      held = λ z. read-declared h (onE x) (eLine (x ∷ [])) refl passes-e positive some low new
+          (progress-other h (onE x) (eLine (x ∷ [])) refl passes-e positive some low new refl inside) m k;
+    }
       where
         low : x ≤ r .formula .bound
         low = fresh-low (r .formula .bound) (declared (r .formula .prefix)) x ok
 
         new : elem x (declared (r .formula .prefix)) ≡ false
         new = fresh-new (r .formula .bound) (declared (r .formula .prefix)) x ok
+
+-- the counts
+pub one-same : (p : Progress) (n : ℕ) → OneMore p (record { progress = p; refusal = n })
+one-same p n = record { bound = refl; universals = omega arith }
+
+pub one-added : (p : Progress) (s : Set) {q : Progress} (n : ℕ) → q ≡ universalAdded p s → OneMore p (record { progress = q; refusal = n })
+unfolding universalAdded
+one-added p s n e = rw e (record { bound = refl; universals = omega arith })
 
 -- ---- the variables of a line, one after the other
 
@@ -250,7 +257,7 @@ module _ (universal : Bool) (xs : List ℕ) (t : Tables) (r : Reader) where
   all-start inside h = (refl, rw (declaring-none r inside) h)
 
   module _ (i : ℕ) (more : i < length xs) {p : Progress} {now now′ : Tables} (h : Declared i p now) {a : LineAnswer}
-    (d : DeclaredAll universal (getD xs i 0 ∷ []) t (declaring r (map (onLine universal) (take i xs))) a now′) where
+      (d : DeclaredAll universal (getD xs i 0 ∷ []) t (declaring r (map (onLine universal) (take i xs))) a now′) where
     told : a .refusal ≡ cond (fresh (r .formula .bound) (declared (r .formula .prefix) ++ take i xs) (getD xs i 0 ∷ [])) 0 12
     unfolding declaring
     told = rw (declared-append (r .formula .prefix) (map (onLine universal) (take i xs)), declared-on universal (take i xs)) at (d .told)
@@ -269,5 +276,5 @@ module _ (universal : Bool) (xs : List ℕ) (t : Tables) (r : Reader) where
           held = λ z. absurd (n z);
         }
 
-  pub all-done : (i : ℕ) → length xs ≤ i → {p : Progress} {now : Tables} → Declared i p now → {a : LineAnswer} → a ≡ record { progress = p; refusal = 0 } → DeclaredAll universal xs t r a now
-  all-done i e h q = let w : take i xs ≡ xs = take-all i xs e in rw q (record { told = rw (rw w at (h .0)); held = λ z. rw w at (h .1) })
+  pub all-done : (i : ℕ) → length xs ≤ i → {p : Progress} {now : Tables} → Declared i p now → DeclaredAll universal xs t r (record { progress = p; refusal = 0 }) now
+  all-done i e h = let w : take i xs ≡ xs = take-all i xs e in record { told = rw (rw w at (h .0)); held = λ z. rw w at (h .1) }

@@ -1,21 +1,24 @@
 -- A row: a value for each of the variables 1 to V, `map f (numbers 0 v)`.
 --     row-length, row-entry, row-past      its length; the value of a variable by its entry
 --     row-same, row-set                    two functions that agree, or agree but for one variable
+--     declared-above, declared-twice, declared-new      the returns of `declare`
 -- Assumes nothing.
 use mathlib.Core.Path.{_≡_, refl, ap, sym, _∙_}
 use mathlib.Core.Logic.{_⊎_, inl, inr}
-use mathlib.Core.Bool.{Bool, true, false}
+use mathlib.Core.Bool.{Bool, true, false, _&&_, and-false, false≢true}
 use mathlib.Core.List.{List, [], _∷_, map}
 use Prim.Native.Nat.{ℕ, zero, suc, _+_, _-_, _≤_, _<_}
 use native.Mathlib.Nat.{add-zero, zero-add, not-suc-le-zero, le-of-suc-le-suc}
 use native.Mathlib.Numerals.{sub-one}
 use native.Mathlib.Omega.{arith}
-use lib.Dec.{ltb}
+use borrow.Author.Tests.{le-leb, lt-leb, eq-eqb, ne-eqb}
+use lib.Dec.{leb, ltb, eqb}
 use lib.ListN.{length, getD, set, length-map, List·getD-eq-default}
 use Rattle.dqbf.specs.Model.{numbers}
 use Rattle.dqbf.proofs.Laws.Tests.{either, ltb-yes, ltb-no}
 use Rattle.dqbf.proofs.Soundness.Link.{numbers-length}
 use Rattle.tables.specs.Tables.{entry}
+use Rattle.dqdimacs.specs.Rows.{declarable, Declared}
 
 pub row-length : {A : Type 0} (f : ℕ → A) (v : ℕ) → length (map f (numbers 0 v)) ≡ v
 row-length f v = length-map (numbers 0 v) f ∙ numbers-length 0 v
@@ -71,3 +74,21 @@ module _ (f : ℕ → ℕ) where
       go (inr h) =
           let k = ltb-no i v h in
           List·getD-eq-default (map f (numbers 0 v)) 0 (omega (arith, row-length f v)) ∙ sym (past (suc i) (omega arith))
+
+-- ---- one variable declared
+
+module _ (bound x kind s : ℕ) (sets kinds : List ℕ) where
+  refused-row : declarable bound kinds x ≡ false → Declared bound x kind s sets kinds false sets kinds
+  refused-row e = record { told = sym e; sets-set = λ z. absurd (false≢true z); kinds-set = λ z. absurd (false≢true z) }
+
+  pub declared-above : bound < x → Declared bound x kind s sets kinds false sets kinds
+  unfolding declarable
+  declared-above h = refused-row (rw (lt-leb x bound h))
+
+  pub declared-twice : (getD kinds (x - 1) 0 ≡ 0 → ⊥) → Declared bound x kind s sets kinds false sets kinds
+  unfolding declarable
+  declared-twice n = refused-row (rw (ne-eqb (getD kinds (x - 1) 0) 0 n) (and-false (leb x bound)))
+
+  pub declared-new : x ≤ bound → getD kinds (x - 1) 0 ≡ 0 → Declared bound x kind s sets kinds true (set sets (x - 1) s) (set kinds (x - 1) kind)
+  unfolding declarable
+  declared-new h e = record { told = rw (le-leb x bound h, e); sets-set = λ z. refl; kinds-set = λ z. refl }

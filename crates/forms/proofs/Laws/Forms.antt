@@ -118,7 +118,7 @@ unfolding headerForm headerShape shapeOf
 header-three a v c cnf x y t p q = rw (← t, p, q) (go cnf)
   where
     go : (t : Bool) → cond t (cond (eqb (plusOne (numberOf v)) 0) Malformed (cond (eqb (plusOne (numberOf c)) 0) Malformed (Header (plusOne (numberOf v) - 1) (plusOne (numberOf c) - 1)))) Malformed
-      ≡ shapeOf (cond t (headerOf (numberOf v) (numberOf c)) noForm)
+        ≡ shapeOf (cond t (headerOf (numberOf v) (numberOf c)) noForm)
     go true = shape-two (numberOf v) (numberOf c)
     go false = refl
 

@@ -57,8 +57,8 @@ module _ (signed : Bool) (line out : List ℕ) (n at : ℕ) (o : Option (List �
   more h =
       so-far
       ∙ ap (behind (take n out))
-        (ap (closed (entryOf signed)) (cut .rest ∙ ap (λ (ws : List (List ℕ)). word ∷ ws) (after-some line (t .to) h))
-        ∙ closed-more (entryOf signed) word (wordsOf (drop (t .to + 1) line)) (words-some (drop (t .to + 1) line)))
+      (ap (closed (entryOf signed)) (cut .rest ∙ ap (λ (ws : List (List ℕ)). word ∷ ws) (after-some line (t .to) h))
+      ∙ closed-more (entryOf signed) word (wordsOf (drop (t .to + 1) line)) (words-some (drop (t .to + 1) line)))
 
   pub gather-done : t .to ≡ length line → isZero word ≡ true → Gathered o (Count n) out
   gather-done h z = gathered-some o n out fits (last h ∙ rw z)

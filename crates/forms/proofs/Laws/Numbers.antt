@@ -166,7 +166,7 @@ rank-none [] h = refl
 rank-none (b ∷ bs) h = go (eqb b minus) h
   where
     go : (t : Bool) → orZero (each rank (cond t (notZero negsuc (numberOf bs)) (notZero (λ k. pos (suc k)) (numberOf (b ∷ bs))))) ≡ 0
-      → each rank (cond t (notZero negsuc (numberOf bs)) (notZero (λ k. pos (suc k)) (numberOf (b ∷ bs)))) ≡ none
+        → each rank (cond t (notZero negsuc (numberOf bs)) (notZero (λ k. pos (suc k)) (numberOf (b ∷ bs)))) ≡ none
     go true h = no-zero negsuc rank (λ k z. absurd (omega arith)) (numberOf bs) h
     go false h = no-zero (λ k. pos (suc k)) rank (λ k z. absurd (omega arith)) (numberOf (b ∷ bs)) h
 

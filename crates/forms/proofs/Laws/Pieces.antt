@@ -70,7 +70,7 @@ leading-before s [] h = h
 leading-before s (b ∷ bs) h = go (eqb b s) refl h (leading-before s bs)
   where
     go : (t : Bool) → eqb b s ≡ t → cond t (suc (leading s bs)) 0 < suc (length bs) → (leading s bs < length bs → 0 < lengthBefore s (drop (leading s bs) bs))
-      → 0 < lengthBefore s (drop (cond t (suc (leading s bs)) 0) (b ∷ bs))
+        → 0 < lengthBefore s (drop (cond t (suc (leading s bs)) 0) (b ∷ bs))
     go true e h r = r (le-of-suc-le-suc h)
     go false e h r = rw e (omega arith)
 
@@ -83,7 +83,7 @@ pieces-last s [] h = refl
 pieces-last s (b ∷ bs) h = go (eqb b s) h (pieces-last s bs)
   where
     go : (t : Bool) → cond t 0 (suc (lengthBefore s bs)) ≡ suc (length bs) → (lengthBefore s bs ≡ length bs → pieces s bs ≡ bs ∷ [])
-      → cond t ([] ∷ pieces s bs) (onto b (pieces s bs)) ≡ (b ∷ bs) ∷ []
+        → cond t ([] ∷ pieces s bs) (onto b (pieces s bs)) ≡ (b ∷ bs) ∷ []
     go true e r = absurd (suc-ne-zero _ (sym e))
     go false e r = rw (r (suc-inj e))
 
@@ -94,8 +94,8 @@ pieces-more s [] h = absurd (not-suc-le-zero h)
 pieces-more s (b ∷ bs) h = go (eqb b s) h (pieces-more s bs)
   where
     go : (t : Bool) → cond t 0 (suc (lengthBefore s bs)) < suc (length bs)
-      → (lengthBefore s bs < length bs → pieces s bs ≡ take (lengthBefore s bs) bs ∷ pieces s (drop (suc (lengthBefore s bs)) bs))
-      → cond t ([] ∷ pieces s bs) (onto b (pieces s bs))
+        → (lengthBefore s bs < length bs → pieces s bs ≡ take (lengthBefore s bs) bs ∷ pieces s (drop (suc (lengthBefore s bs)) bs))
+        → cond t ([] ∷ pieces s bs) (onto b (pieces s bs))
         ≡ take (cond t 0 (suc (lengthBefore s bs))) (b ∷ bs) ∷ pieces s (drop (suc (cond t 0 (suc (lengthBefore s bs)))) (b ∷ bs))
     go true e r = refl
     go false e r = rw (r (le-of-suc-le-suc e))
@@ -229,13 +229,13 @@ module _ (l : List ℕ) (i b : ℕ) (inside : i ≤ length l) (begins : b ≡ le
         same-words
         ∙ words-more (drop (i + b) l) (omega (arith, length-drop (i + b) l)) (omega arith)
         ∙ ap₂ (λ (m : ℕ) (r : List ℕ). take m (drop (i + b) l) ∷ wordsOf r) m
-          (drop-drop (suc (lengthBefore space (drop (i + b) l))) (i + b) l ∙ ap (λ (m : ℕ). drop m l) z)
+        (drop-drop (suc (lengthBefore space (drop (i + b) l))) (i + b) l ∙ ap (λ (m : ℕ). drop m l) z)
 
     pub token-cut : Cut l i (record { from = i + b; to = i + b + n })
     unfolding after
     token-cut = record { low = omega arith; mid = omega arith; high = token-ends; some = λ h. let q = token-some h in omega arith; rest = go (ltb (i + b + n) (length l)) refl }
       where
         go : (t : Bool) → ltb (i + b + n) (length l) ≡ t
-          → wordsOf (drop i l) ≡ take (i + b + n - (i + b)) (drop (i + b) l) ∷ cond t (wordsOf (drop (i + b + n + 1) l)) []
+            → wordsOf (drop i l) ≡ take (i + b + n - (i + b)) (drop (i + b) l) ∷ cond t (wordsOf (drop (i + b + n + 1) l)) []
         go true e = token-more (ltb-true (i + b + n) (length l) e)
         go false e = let h = ltb-false (i + b + n) (length l) e in let k = token-ends in token-last (omega arith)
