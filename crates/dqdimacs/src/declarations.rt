@@ -4,16 +4,19 @@ ghost use mathlib.Core.Bool.{true};
 ghost use mathlib.Core.List.{List, [], _∷_};
 ghost use Prim.Native.Nat.{ℕ, _+_, _≤_, _<_};
 ghost use lib.IntN.{ℤ};
-ghost use lib.ListN.{length, getD};
+ghost use lib.ListN.{length, getD, drop};
 ghost use Rattle.dqbf.specs.Limits.{universalLimit};
-ghost use Rattle.dqbf.specs.Reading.{Reader, prefixLines};
+ghost use Rattle.dqbf.specs.Reading.{Reader, prefixLines, eLine, dLine};
 ghost use Rattle.tables.specs.Tables.{Tables, tablesOf};
-ghost use Rattle.dqdimacs.specs.Rows.{Declared};
-ghost use Rattle.dqdimacs.specs.Lines.{ReadSoFar, DeclaredAll, OneMore};
+ghost use Rattle.tables.specs.WellFormed.{allOf};
+ghost use Rattle.dqdimacs.specs.Rows.{Declared, isUniversal, unionOf};
+ghost use Rattle.dqdimacs.specs.Lines.{ReadSoFar, LineRead, DeclaredAll, OneMore};
 use super::progress;
 use super::progress::LineAnswer;
 use super::progress::Progress;
 use super::refusal;
+use tables::VariableNumber;
+use tables::entries;
 
 // A variable up to V that has no kind yet is given its kind and its set; whether it is one.
 fn declare(
@@ -48,7 +51,7 @@ fn declare_one(
     kinds: &mut [u8],
 ) -> LineAnswer
     requires { ⌜ (0 < variable) × (progress .state .bound .0 ≤ length (now sets)) × (progress .state .bound .0 ≤ length (now kinds))
-        × (universal ≡ true → progress .state .universals < universalLimit) × (progress .state .universals ≤ universalLimit) ⌝ }
+        × (universal ≡ true → progress .state .universals < universalLimit) ⌝ }
     ensures { λ r. ⌜ OneMore progress r × ((t : Tables) (reader : Reader) (literals : List ℤ) (ends : List ℕ)
         → ReadSoFar t reader progress (tablesOf literals ends (now (sets .entry)) (now (kinds .entry))) → reader .phase ≡ prefixLines
         → DeclaredAll universal (variable ∷ []) t reader r (tablesOf literals ends (now (sets .exit)) (now (kinds .exit)))) ⌝ }
@@ -70,6 +73,130 @@ fn declare_one(
         };
     }
     if !declare(variable, bound.0, 4, 0, sets, kinds) {
+        return LineAnswer {
+            progress,
+            refusal: refusal::VARIABLE,
+        };
+    }
+    LineAnswer {
+        progress,
+        refusal: refusal::NONE,
+    }
+}
+
+// The variables of an `a` line, or of an `e` line, one after the other.
+fn declare_all(
+    variables: &[u32],
+    universal: bool,
+    start: Progress,
+    sets: &mut [u64],
+    kinds: &mut [u8],
+) -> LineAnswer
+    requires { ⌜ ((i : ℕ) → i < length (now variables) → 0 < getD (now variables) i 0) × (start .state .bound .0 ≤ length (now sets))
+        × (start .state .bound .0 ≤ length (now kinds)) × (universal ≡ true → start .state .universals + length (now variables) ≤ universalLimit) ⌝ }
+    ensures { λ r. ⌜ ((t : Tables) (reader : Reader) (literals : List ℤ) (ends : List ℕ)
+        → ReadSoFar t reader start (tablesOf literals ends (now (sets .entry)) (now (kinds .entry))) → reader .phase ≡ prefixLines
+        → DeclaredAll universal (now (variables .entry)) t reader r (tablesOf literals ends (now (sets .exit)) (now (kinds .exit)))) ⌝ }
+{
+    let mut progress = start;
+    let mut i = 0;
+    while i < variables.len() {
+        let variable = variables[i];
+        i += 1;
+        let next = declare_one(variable, universal, progress, sets, kinds);
+        if next.refusal != 0 {
+            return next;
+        }
+        let after = next.progress;
+        progress = after;
+    }
+    LineAnswer {
+        progress,
+        refusal: refusal::NONE,
+    }
+}
+
+// Whether each of the variables is a universal.
+fn all_universal(variables: &[u32], kinds: &[u8]) -> bool
+    ensures { λ r. ⌜ r ≡ allOf (isUniversal (now (kinds .entry))) (now (variables .entry)) ⌝ }
+{
+    let mut i = 0;
+    while i < variables.len() {
+        let kind = entries::kind_of(kinds, VariableNumber(variables[i]));
+        if kind != 1 {
+            return false;
+        }
+        i += 1;
+    }
+    true
+}
+
+// The union of the sets of the variables.
+fn union_of(variables: &[u32], sets: &[u64]) -> u64
+    ensures { λ r. ⌜ r ≡ unionOf (now (sets .entry)) (now (variables .entry)) ⌝ }
+{
+    let mut union = 0;
+    let mut i = variables.len();
+    while i > 0 {
+        i -= 1;
+        let set = entries::set_of(sets, VariableNumber(variables[i]));
+        union = dqbf::sets::union(set, union);
+    }
+    union
+}
+
+// An `e` line.
+pub fn existential_line(
+    variables: &[u32],
+    progress: Progress,
+    sets: &mut [u64],
+    kinds: &mut [u8],
+) -> LineAnswer
+    requires { ⌜ ((i : ℕ) → i < length (now variables) → 0 < getD (now variables) i 0) × (progress .state .bound .0 ≤ length (now sets))
+        × (progress .state .bound .0 ≤ length (now kinds)) ⌝ }
+    ensures { λ r. ⌜ ((t : Tables) (reader : Reader) (literals : List ℤ) (ends : List ℕ)
+        → ReadSoFar t reader progress (tablesOf literals ends (now (sets .entry)) (now (kinds .entry)))
+        → LineRead t reader (eLine (now (variables .entry))) r (tablesOf literals ends (now (sets .exit)) (now (kinds .exit)))) ⌝ }
+{
+    if progress.phase != progress::PREFIX_LINES {
+        return LineAnswer {
+            progress,
+            refusal: refusal::NO_FORM,
+        };
+    }
+    declare_all(variables, false, progress, sets, kinds)
+}
+
+// A `d` line: one existential, whose set is the union of the sets of its universals.
+pub fn dependent_line(
+    numbers: &[u32],
+    progress: Progress,
+    sets: &mut [u64],
+    kinds: &mut [u8],
+) -> LineAnswer
+    requires { ⌜ (0 < length (now numbers)) × (0 < getD (now numbers) 0 0) × (progress .state .bound .0 ≤ length (now sets))
+        × (progress .state .bound .0 ≤ length (now kinds)) ⌝ }
+    ensures { λ r. ⌜ ((t : Tables) (reader : Reader) (literals : List ℤ) (ends : List ℕ)
+        → ReadSoFar t reader progress (tablesOf literals ends (now (sets .entry)) (now (kinds .entry)))
+        → LineRead t reader (dLine (getD (now (numbers .entry)) 0 0) (drop 1 (now (numbers .entry)))) r (tablesOf literals ends (now (sets .exit)) (now (kinds .exit)))) ⌝ }
+{
+    if progress.phase != progress::PREFIX_LINES {
+        return LineAnswer {
+            progress,
+            refusal: refusal::NO_FORM,
+        };
+    }
+    let state = progress.state;
+    let bound = state.bound;
+    let end = bound.0 as usize;
+    if !all_universal(&numbers[1..], &kinds[..end]) {
+        return LineAnswer {
+            progress,
+            refusal: refusal::VARIABLE,
+        };
+    }
+    let set = union_of(&numbers[1..], &sets[..end]);
+    if !declare(numbers[0], bound.0, 2, set, sets, kinds) {
         return LineAnswer {
             progress,
             refusal: refusal::VARIABLE,

@@ -2,6 +2,7 @@
 --     row-length, row-entry, row-past      its length; the value of a variable by its entry
 --     row-same, row-set                    two functions that agree, or agree but for one variable
 --     declared-above, declared-twice, declared-new      the returns of `declare`
+--     universal-yes, universal-no, union-more           the loops of `all_universal` and `union_of`
 -- Assumes nothing.
 use mathlib.Core.Path.{_≡_, refl, ap, sym, _∙_}
 use mathlib.Core.Logic.{_⊎_, inl, inr}
@@ -13,12 +14,14 @@ use native.Mathlib.Numerals.{sub-one}
 use native.Mathlib.Omega.{arith}
 use borrow.Author.Tests.{le-leb, lt-leb, eq-eqb, ne-eqb}
 use lib.Dec.{leb, ltb, eqb}
-use lib.ListN.{length, getD, set, length-map, List·getD-eq-default}
+use lib.ListN.{length, getD, drop, set, length-map, List·getD-eq-default}
+use lib.Seq.{drop-cons, drop-length}
+use Rattle.dqbf.specs.Set.{union}
 use Rattle.dqbf.specs.Model.{numbers}
 use Rattle.dqbf.proofs.Laws.Tests.{either, ltb-yes, ltb-no}
 use Rattle.dqbf.proofs.Soundness.Link.{numbers-length}
 use Rattle.tables.specs.Tables.{entry}
-use Rattle.dqdimacs.specs.Rows.{declarable, Declared}
+use Rattle.dqdimacs.specs.Rows.{declarable, Declared, isUniversal, unionOf}
 
 pub row-length : {A : Type 0} (f : ℕ → A) (v : ℕ) → length (map f (numbers 0 v)) ≡ v
 row-length f v = length-map (numbers 0 v) f ∙ numbers-length 0 v
@@ -92,3 +95,24 @@ module _ (bound x kind s : ℕ) (sets kinds : List ℕ) where
   pub declared-new : x ≤ bound → getD kinds (x - 1) 0 ≡ 0 → Declared bound x kind s sets kinds true (set sets (x - 1) s) (set kinds (x - 1) kind)
   unfolding declarable
   declared-new h e = record { told = rw (le-leb x bound h, e); sets-set = λ z. refl; kinds-set = λ z. refl }
+
+-- ---- kinds and sets of several variables
+
+module _ (kinds : List ℕ) (x : ℕ) {k : ℕ} (e : k ≡ entry kinds x) where
+  pub universal-yes : k ≡ 1 → isUniversal kinds x ≡ true
+  unfolding isUniversal
+  universal-yes q = eq-eqb (entry kinds x) 1 (sym e ∙ q)
+
+  pub universal-no : (k ≡ 1 → ⊥) → isUniversal kinds x ≡ false
+  unfolding isUniversal
+  universal-no n = ne-eqb (entry kinds x) 1 (λ q. n (e ∙ q))
+
+pub union-end : (sets xs : List ℕ) → 0 ≡ unionOf sets (drop (length xs) xs)
+unfolding unionOf
+union-end sets xs = rw (drop-length xs)
+
+pub union-more : (sets xs : List ℕ) (i : ℕ) {s u w : ℕ} → 0 < i → i ≤ length xs → u ≡ unionOf sets (drop i xs) → s ≡ entry sets (getD xs (i - 1) 0) → w ≡ union s u → w ≡ unionOf sets (drop (i - 1) xs)
+unfolding unionOf
+union-more sets xs i {s} {u} {w} some low e f g =
+    let q : suc (i - 1) ≡ i = omega arith in
+    g ∙ rw (f, e) (ap (λ n. union (entry sets (getD xs (i - 1) 0)) (unionOf sets (drop n xs))) (sym q) ∙ sym (ap (unionOf sets) (drop-cons xs (i - 1) 0 (omega arith))))
