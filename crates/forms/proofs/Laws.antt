@@ -4,6 +4,7 @@ pub mod Numbers
 pub mod Bridge
 pub mod Gathering
 pub mod Forms
+pub mod Shapes
 pub mod Insertion
 pub mod Sorting
 pub mod Ranks

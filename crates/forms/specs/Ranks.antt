@@ -1,6 +1,6 @@
 -- Back from ranks (the calculus' `rank`: 2·x, or 2·x + 1 for the negation) to literals.
 -- Offers `literalOfRank`, `sideBySide`.
-use mathlib.Core.Bool.{Bool, true, false, cond, _||_}
+use mathlib.Core.Bool.{Bool, false, cond, _||_}
 use mathlib.Core.List.{List, [], _∷_}
 use Prim.Native.Nat.{ℕ, _/_, _%_}
 use lib.Dec.{eqb}

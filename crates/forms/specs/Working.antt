@@ -3,7 +3,7 @@
 -- Offers `lengthBefore`, `leading`, `words`, `wordsOf`, `digitsFrom`, `plusOne`, `orZero`, `rankOf`, `entryOf`, `keyword`, `after`, `headerShape`, `Cut`, `Gathered`, `Listing`.
 use mathlib.Core.Path.{_≡_}
 use mathlib.Core.Bool.{Bool, true, false, cond}
-use mathlib.Core.List.{List, [], _∷_, map}
+use mathlib.Core.List.{List, [], _∷_}
 use mathlib.Core.Option.{Option, none, some}
 use Prim.Native.Nat.{ℕ, suc, _+_, _-_, _≤_, _<_}
 use lib.Dec.{eqb, ltb}

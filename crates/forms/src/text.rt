@@ -2,7 +2,7 @@
 ghost use mathlib.Core.Path.{_≡_};
 ghost use Prim.Native.Nat.{_≤_};
 ghost use lib.ListN.{length};
-ghost use Rattle.dqbf.specs.Text.{lineFeed, space};
+ghost use Rattle.dqbf.specs.Text.{space};
 ghost use Rattle.forms.specs.Shapes.{lineLength};
 ghost use Rattle.forms.specs.Working.{lengthBefore, leading, Cut};
 

@@ -1,20 +1,18 @@
 -- The working definitions (specs/Working.antt) are the calculus': the form by words is the form by tokens (`form-words`),
 -- a list of entries is the list of variables (`closed-variables`) or has the ranks of the literals (`closed-ranks`).
-use mathlib.Core.Path.{_≡_, refl, sym, ap, ap₂, _∙_}
-use mathlib.Core.Bool.{Bool, true, false, cond, _&&_, _||_, true≢false}
+use mathlib.Core.Path.{_≡_, refl, sym, ap}
+use mathlib.Core.Bool.{Bool, true, false, cond, true≢false}
 use mathlib.Core.List.{List, [], _∷_, map}
 use mathlib.Core.Option.{Option, none, some}
-use Prim.Native.Nat.{ℕ, zero, suc}
-use native.Mathlib.Omega.{arith}
+use Prim.Native.Nat.{ℕ}
 use native.Mathlib.Nat.{suc-ne-zero}
-use lib.Dec.{eqb}
 use lib.IntN.{ℤ}
 use lib.ListN.{length, getD}
 use borrow.Author.Tests.{eq-eqb, ne-eqb}
 use Rattle.dqbf.specs.Bytes.{bytes, sameBytes}
 use Rattle.dqbf.specs.Literal.{Clause, rank}
 use Rattle.dqbf.specs.Text.{space, onto, pieces, isEmpty, nonEmpty, lastOf, parted, tokens, numberOf, variableOf, literalOf, isZero, prepend, closed}
-use Rattle.dqbf.specs.Reading.{Form, comment, noForm, headerOf, headerForm, prefixForm, clauseForm, tokensForm, isComment, formOf}
+use Rattle.dqbf.specs.Reading.{comment, noForm, headerOf, headerForm, prefixForm, clauseForm, tokensForm, isComment, formOf}
 use Rattle.forms.specs.Working.{isNil, words, wordsOf, each, entryOf, rankOf}
 
 -- ---- an empty token at the end has no form

@@ -3,7 +3,7 @@ use mathlib.Core.Path.{_≡_, refl, sym, ap, ap₂, _∙_}
 use mathlib.Core.Bool.{Bool, true, false, cond, _&&_, true≢false}
 use mathlib.Core.List.{List, [], _∷_, map}
 use mathlib.Core.Option.{Option, none, some}
-use Prim.Native.Nat.{ℕ, zero, suc, _+_, _-_, _≤_, _<_}
+use Prim.Native.Nat.{ℕ, _+_, _-_, _<_}
 use native.Mathlib.Nat.{suc-ne-zero, suc-inj}
 use native.Mathlib.Omega.{arith}
 use lib.Dec.{eqb}
@@ -12,7 +12,7 @@ use borrow.Author.Tests.{eq-eqb, ne-eqb}
 use Rattle.dqbf.specs.Bytes.{bytes, sameBytes}
 use Rattle.dqbf.specs.Literal.{Clause, rank}
 use Rattle.dqbf.specs.Text.{numberOf, variableOf, literalOf, closed}
-use Rattle.dqbf.specs.Reading.{Form, comment, header, aLine, eLine, dLine, noForm, headerOf, headerForm, prefixForm, clauseForm, tokensForm, formOf}
+use Rattle.dqbf.specs.Reading.{Form, aLine, eLine, dLine, noForm, headerOf, headerForm, prefixForm, clauseForm, tokensForm, formOf}
 use Rattle.forms.specs.Shapes.{shapeOf, numbersOf, Formed}
 use Rattle.forms.specs.Working.{isNil, wordsOf, after, keyword, plusOne, each, entryOf, entries, countOf, headerShape, Cut, Gathered, Listing}
 use Rattle.forms.specs.declared.text.Token.{Token}

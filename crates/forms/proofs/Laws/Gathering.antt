@@ -3,15 +3,14 @@ use mathlib.Core.Path.{_≡_, refl, sym, ap, _∙_}
 use mathlib.Core.Bool.{Bool, true, false, cond}
 use mathlib.Core.List.{List, [], _∷_, _++_, append-nil}
 use mathlib.Core.Option.{Option, none, some}
-use Prim.Native.Nat.{ℕ, zero, suc, _+_, _-_, _*_, _≤_, _<_}
+use Prim.Native.Nat.{ℕ, _+_, _-_, _≤_, _<_}
 use native.Mathlib.Numerals.{add-one}
 use native.Mathlib.Omega.{arith}
-use lib.ListN.{length, take, drop, getD, set}
+use lib.ListN.{length, take, drop, set}
 use lib.Seq.{length-take-le, take-suc-set, append-snoc}
 use Rattle.dqbf.specs.Text.{isZero, prepend, closed}
-use Rattle.forms.specs.Working.{wordsOf, after, orZero, entryOf, entries, countOf, Cut, Gathered}
+use Rattle.forms.specs.Working.{wordsOf, orZero, entryOf, entries, countOf, Cut, Gathered}
 use Rattle.forms.specs.declared.text.Token.{Token}
-use Rattle.forms.specs.declared.form.Gathering.{Gathering}
 use Rattle.forms.specs.declared.form.Gathering.the-variants.{Count, Open}
 use Rattle.forms.proofs.Laws.Pieces.{words-some, after-none, after-some}
 use Rattle.forms.proofs.Laws.Numbers.{entry-none}

@@ -1,5 +1,5 @@
 -- Lines and tokens: `pieces` from the left by `lengthBefore`, and the token that `next_token` cuts.
--- For a loop over lines: `line-inside`, `line-last`, `line-more`.
+-- For a loop over lines: `line-at-inside`, `line-at-last`, `line-at-more`.
 use mathlib.Core.Path.{_≡_, refl, sym, ap, ap₂, _∙_}
 use mathlib.Core.Bool.{Bool, true, false, cond}
 use mathlib.Core.List.{List, [], _∷_}
@@ -9,13 +9,12 @@ use native.Mathlib.Numerals.{add-one}
 use native.Mathlib.Omega.{arith}
 use lib.Dec.{eqb, ltb}
 use lib.ListN.{length, take, drop, getD, drop-of-length-le, length-drop}
-use lib.Seq.{drop-cons, drop-drop, length-take-le, take-all}
+use lib.Seq.{drop-cons, drop-drop, take-all}
 use borrow.Author.Tests.{eq-eqb, ne-eqb, ltb-true, ltb-false, lt-ltb, le-ltb}
 use Rattle.dqbf.specs.Text.{lineFeed, space, onto, pieces, isEmpty}
 use Rattle.dqbf.proofs.Laws.Parts.{tail-lent}
 use Rattle.forms.specs.Shapes.{firstOf, lineLength}
 use Rattle.forms.specs.Working.{lengthBefore, leading, isNil, words, wordsOf, after, Cut}
-use Rattle.forms.specs.declared.text.Token.{Token}
 
 -- ---- lengthBefore
 
@@ -139,6 +138,25 @@ pub line-more : (text : List ℕ) → lineLength text < length text
 line-more text h =
     let e = line-is text in
     pieces-more lineFeed text (rw e h) ∙ rw (e, add-one (lineLength text))
+
+-- the line at `at`, of the length r that `line_length` answers for the part from there on
+module _ (text : List ℕ) (at r : ℕ) (inside : at ≤ length text) (length-is : r ≡ lineLength (take (length text - at) (drop at text))) where
+  r-is : r ≡ lineLength (drop at text)
+  r-is = rw (← tail-lent text at) length-is
+
+  pub line-at-inside : at + r ≤ length text
+  line-at-inside = let e = r-is in omega (arith, line-inside (drop at text), length-drop at text)
+
+  pub line-at-last : at + r ≡ length text → pieces lineFeed (drop at text) ≡ drop at text ∷ []
+  line-at-last h = let e = r-is in line-last (drop at text) (omega (arith, length-drop at text))
+
+  pub line-at-more : at + r < length text → pieces lineFeed (drop at text) ≡ take (at + r - at) (drop at text) ∷ pieces lineFeed (drop (at + r + 1) text)
+  line-at-more h =
+      let e = r-is in
+      let m : lineLength (drop at text) ≡ at + r - at = omega arith in
+      let z : at + (lineLength (drop at text) + 1) ≡ at + r + 1 = omega arith in
+      line-more (drop at text) (omega (arith, length-drop at text))
+      ∙ ap₂ (λ (n : ℕ) (l : List ℕ). take n (drop at text) ∷ pieces lineFeed l) m (drop-drop (lineLength (drop at text) + 1) at text ∙ ap (λ (k : ℕ). drop k text) z)
 
 -- ---- words
 

@@ -1,4 +1,5 @@
 use borrow.Author.Needs.{needs}
+use Rattle.forms.proofs.Laws.Forms.{clause-open, clause-count}
 use Rattle.forms.proofs.form.clause_form.Statement.{statement}
 use Rattle.forms.proofs.form.clause_form.Tie as tie
 use Rattle.forms.proofs.form.clause_form.Reads as reads
@@ -23,7 +24,7 @@ same-length c = search needs
 
 -- src/form.rt:162:9
 returns : tie.Need-returns
-returns c = ?
+returns c = clause-open (c .before .before .before .before .before .before .before .before .args .line .now) _ (c .before .before .before .before .gather .result) (c .before .before .before .before .gather .ensures) (c .enum-told .given .1)
 
 -- src/form.rt:156:1
 same-length-2 : tie.Need-same-length-2
@@ -31,7 +32,7 @@ same-length-2 c = search needs
 
 -- src/form.rt:156:1
 returns-2 : tie.Need-returns-2
-returns-2 c = ?
+returns-2 c = clause-count (c .before .before .before .before .before .before .before .before .before .args .line .now) _ (c .before .before .before .before .before .gather .result) (c .before .before .before .before .before .gather .ensures) (c .before .a .given .0 .0) (c .before .a .given .1)
 
 pub clause-form-spec : {M : Type 1} → statement M
 clause-form-spec =

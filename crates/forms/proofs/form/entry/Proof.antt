@@ -1,4 +1,5 @@
 use borrow.Author.Needs.{needs}
+use Rattle.forms.specs.Working.{entryOf}
 use Rattle.forms.proofs.form.entry.Statement.{statement}
 use Rattle.forms.proofs.form.entry.Tie as tie
 use Rattle.forms.proofs.form.entry.Reads as reads
@@ -12,7 +13,8 @@ literal-rank-requires c κs = search needs
 
 -- src/form.rt:62:9
 returns : tie.Need-returns
-returns c = ?
+unfolding entryOf
+returns c = rw (c .before .if1 .taken) (c .literal-rank .ensures)
 
 -- src/form.rt:64:5
 variable-requires : tie.Need-variable-requires
@@ -20,7 +22,8 @@ variable-requires c κs = search needs
 
 -- src/form.rt:58:1
 returns-2 : tie.Need-returns-2
-returns-2 c = ?
+unfolding entryOf
+returns-2 c = rw (c .before .if1 .left) (c .variable .ensures)
 
 pub entry-spec : {M : Type 1} → statement M
 entry-spec = tie.close (tie.spec literal-rank-requires returns variable-requires returns-2)

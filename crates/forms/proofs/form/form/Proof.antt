@@ -1,4 +1,5 @@
 use borrow.Author.Needs.{needs}
+use Rattle.forms.proofs.Laws.Forms.{formed-empty, formed-comment, formed-space, formed-tokens}
 use Rattle.forms.proofs.form.form.Statement.{statement}
 use Rattle.forms.proofs.form.form.Tie as tie
 use Rattle.forms.proofs.form.form.Reads as reads
@@ -7,7 +8,7 @@ use Rattle.forms.proofs.form.tokens_form.Reads as tokens-form-reads
 
 -- src/form.rt:209:9
 returns : tie.Need-returns
-returns c = ?
+returns c = formed-empty (c .before .before .before .args .line .now) _ (c .if1 .taken)
 
 -- src/form.rt:211:8
 shared-slice-read-if2 : tie.Need-shared-slice-read-if2
@@ -15,7 +16,7 @@ shared-slice-read-if2 c = search needs
 
 -- src/form.rt:212:9
 returns-2 : tie.Need-returns-2
-returns-2 c = ?
+returns-2 c = formed-comment (c .before .before .before .before .before .args .line .now) _ (c .before .before .if1 .left) (c .if2 .taken)
 
 -- src/form.rt:214:8
 shared-slice-read-if3 : tie.Need-shared-slice-read-if3
@@ -23,7 +24,7 @@ shared-slice-read-if3 c = search needs
 
 -- src/form.rt:215:9
 returns-3 : tie.Need-returns-3
-returns-3 c = ?
+returns-3 c = formed-space (c .before .before .before .before .before .before .before .args .line .now) _ (c .before .before .before .before .if1 .left) (c .before .before .if2 .left) (c .if3 .taken)
 
 -- src/form.rt:217:5
 tokens-form-requires : tie.Need-tokens-form-requires
@@ -35,7 +36,7 @@ same-length c = search needs
 
 -- src/form.rt:204:1
 returns-4 : tie.Need-returns-4
-returns-4 c = ?
+returns-4 c = formed-tokens (c .before .before .before .before .before .before .before .before .before .before .before .args .line .now) _ (c .before .before .before .before .before .before .before .before .if1 .left) (c .before .before .before .before .before .before .if2 .left) (c .before .before .before .before .if3 .left) (c .before .before .tokens-form .result) (c .before .before .tokens-form .ensures)
 
 pub form-spec : {M : Type 1} → statement M
 form-spec =

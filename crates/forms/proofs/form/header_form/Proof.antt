@@ -1,4 +1,6 @@
+use native.Mathlib.Omega.{arith}
 use borrow.Author.Needs.{needs}
+use Rattle.forms.proofs.Laws.Forms.{header-bare, header-one, header-two, header-many, header-is}
 use Rattle.forms.proofs.form.header_form.Statement.{statement}
 use Rattle.forms.proofs.form.header_form.Tie as tie
 use Rattle.forms.proofs.form.header_form.Reads as reads
@@ -10,7 +12,7 @@ use Rattle.forms.proofs.text.next_token.Reads as next-token-reads
 
 -- src/form.rt:98:9
 returns : tie.Need-returns
-returns c = ?
+returns c = header-bare (c .before .before .args .line .now) (c .before .before .args .i) (c .if1 .taken)
 
 -- src/form.rt:100:43
 add-next-token : tie.Need-add-next-token
@@ -22,7 +24,7 @@ next-token-requires c κs = search needs
 
 -- src/form.rt:104:9
 returns-2 : tie.Need-returns-2
-returns-2 c = ?
+returns-2 c = header-one (c .before .before .before .before .args .line .now) (c .before .before .before .before .args .i) (omega arith) (c .before .next-token .result) (c .before .next-token .ensures) (c .if2 .taken)
 
 -- src/form.rt:106:22
 sub-is-cnf : tie.Need-sub-is-cnf
@@ -50,7 +52,7 @@ next-token-requires-2 c κs = search needs
 
 -- src/form.rt:111:9
 returns-3 : tie.Need-returns-3
-returns-3 c = ?
+returns-3 c = header-two (c .before .before .before .before .before .before .before .before .args .line .now) (c .before .before .before .before .before .before .before .before .args .i) (omega arith) (c .before .before .before .before .before .next-token .result) (c .before .before .before .before .before .next-token .ensures) (omega arith) (c .before .next-token2 .result) (c .before .next-token2 .ensures) (c .if3 .taken)
 
 -- src/form.rt:113:35
 sub-number : tie.Need-sub-number
@@ -78,7 +80,7 @@ next-token-requires-3 c κs = search needs
 
 -- src/form.rt:118:9
 returns-4 : tie.Need-returns-4
-returns-4 c = ?
+returns-4 c = header-many (c .before .before .before .before .before .before .before .before .before .before .before .before .args .line .now) (c .before .before .before .before .before .before .before .before .before .before .before .before .args .i) (omega arith) (c .before .before .before .before .before .before .before .before .before .next-token .result) (c .before .before .before .before .before .before .before .before .before .next-token .ensures) (omega arith) (c .before .before .before .before .before .next-token2 .result) (c .before .before .before .before .before .next-token2 .ensures) (omega arith) (c .before .next-token3 .result) (c .before .next-token3 .ensures) (c .if4 .taken)
 
 -- src/form.rt:120:35
 sub-number-2 : tie.Need-sub-number-2
@@ -102,7 +104,7 @@ header-shape-requires c κs = search needs
 
 -- src/form.rt:93:1
 returns-5 : tie.Need-returns-5
-returns-5 c = ?
+returns-5 c = header-is (c .before .before .before .before .before .before .before .before .before .before .before .before .before .before .before .args .line .now) (c .before .before .before .before .before .before .before .before .before .before .before .before .before .before .before .args .i) (omega arith) (c .before .before .before .before .before .before .before .before .before .before .before .before .next-token .result) (c .before .before .before .before .before .before .before .before .before .before .before .before .next-token .ensures) (omega arith) (c .before .before .before .before .before .before .before .before .next-token2 .result) (c .before .before .before .before .before .before .before .before .next-token2 .ensures) (omega arith) (c .before .before .before .before .next-token3 .result) (c .before .before .before .before .next-token3 .ensures) (c .before .before .before .if4 .left) (c .before .before .before .before .before .before .before .before .before .is-cnf .result) (c .before .before .before .before .before .number .result) (c .before .number2 .result) (c .header-shape .result) (c .before .before .before .before .before .before .before .before .before .is-cnf .ensures) (c .before .before .before .before .before .number .ensures .0) (c .before .number2 .ensures .0) (c .header-shape .ensures)
 
 pub header-form-spec : {M : Type 1} → statement M
 header-form-spec =

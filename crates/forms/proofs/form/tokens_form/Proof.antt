@@ -1,4 +1,5 @@
 use borrow.Author.Needs.{needs}
+use Rattle.forms.proofs.Laws.Forms.{p-line, a-none, a-some, e-none, e-some, d-none, d-some, clause-line}
 use Rattle.forms.proofs.form.tokens_form.Statement.{statement}
 use Rattle.forms.proofs.form.tokens_form.Tie as tie
 use Rattle.forms.proofs.form.tokens_form.Reads as reads
@@ -35,7 +36,7 @@ header-form-requires c κs = search needs
 
 -- src/form.rt:177:9
 returns : tie.Need-returns
-returns c = ?
+returns c = p-line (c .before .before .before .before .before .before .before .args .line .now) (c .before .before .before .before .next-token .result) (c .before .before .before .before .next-token .ensures) (c .before .before .keyword-byte .result) (c .before .before .keyword-byte .ensures) (c .before .if1 .taken) (c .header-form .result) _ (c .header-form .ensures)
 
 -- src/form.rt:180:13
 variables-requires : tie.Need-variables-requires
@@ -47,7 +48,7 @@ same-length c = search needs
 
 -- src/form.rt:182:13
 returns-2 : tie.Need-returns-2
-returns-2 c = ?
+returns-2 c = a-none (c .before .before .before .before .before .before .before .before .before .before .before .before .args .line .now) (c .before .before .before .before .before .before .before .before .before .next-token .result) (c .before .before .before .before .before .before .before .before .before .next-token .ensures) (c .before .before .before .before .before .before .before .keyword-byte .result) (c .before .before .before .before .before .before .before .keyword-byte .ensures) (c .before .before .before .before .before .before .if1 .left) (c .before .before .before .variables .result) _ (c .before .before .before .before .before .if2 .taken) (c .before .before .before .variables .ensures) (c .if3 .taken)
 
 -- src/form.rt:184:9
 same-length-2 : tie.Need-same-length-2
@@ -55,7 +56,7 @@ same-length-2 c = search needs
 
 -- src/form.rt:184:9
 returns-3 : tie.Need-returns-3
-returns-3 c = ?
+returns-3 c = a-some (c .before .before .before .before .before .before .before .before .before .before .before .before .args .line .now) (c .before .before .before .before .before .before .before .before .before .next-token .result) (c .before .before .before .before .before .before .before .before .before .next-token .ensures) (c .before .before .before .before .before .before .before .keyword-byte .result) (c .before .before .before .before .before .before .before .keyword-byte .ensures) (c .before .before .before .before .before .before .if1 .left) (c .before .before .before .variables .result) _ (c .before .before .before .before .before .if2 .taken) (c .before .before .before .variables .ensures) (c .if3 .left)
 
 -- src/form.rt:187:13
 variables-requires-2 : tie.Need-variables-requires-2
@@ -67,7 +68,7 @@ same-length-3 c = search needs
 
 -- src/form.rt:189:13
 returns-4 : tie.Need-returns-4
-returns-4 c = ?
+returns-4 c = e-none (c .before .before .before .before .before .before .before .before .before .before .before .before .before .args .line .now) (c .before .before .before .before .before .before .before .before .before .before .next-token .result) (c .before .before .before .before .before .before .before .before .before .before .next-token .ensures) (c .before .before .before .before .before .before .before .before .keyword-byte .result) (c .before .before .before .before .before .before .before .before .keyword-byte .ensures) (c .before .before .before .before .before .before .before .if1 .left) (c .before .before .before .variables2 .result) _ (c .before .before .before .before .before .before .if2 .left) (c .before .before .before .before .before .if4 .taken) (c .before .before .before .variables2 .ensures) (c .if5 .taken)
 
 -- src/form.rt:191:9
 same-length-4 : tie.Need-same-length-4
@@ -75,7 +76,7 @@ same-length-4 c = search needs
 
 -- src/form.rt:191:9
 returns-5 : tie.Need-returns-5
-returns-5 c = ?
+returns-5 c = e-some (c .before .before .before .before .before .before .before .before .before .before .before .before .before .args .line .now) (c .before .before .before .before .before .before .before .before .before .before .next-token .result) (c .before .before .before .before .before .before .before .before .before .before .next-token .ensures) (c .before .before .before .before .before .before .before .before .keyword-byte .result) (c .before .before .before .before .before .before .before .before .keyword-byte .ensures) (c .before .before .before .before .before .before .before .if1 .left) (c .before .before .before .variables2 .result) _ (c .before .before .before .before .before .before .if2 .left) (c .before .before .before .before .before .if4 .taken) (c .before .before .before .variables2 .ensures) (c .if5 .left)
 
 -- src/form.rt:194:13
 variables-requires-3 : tie.Need-variables-requires-3
@@ -87,7 +88,7 @@ same-length-5 c = search needs
 
 -- src/form.rt:196:13
 returns-6 : tie.Need-returns-6
-returns-6 c = ?
+returns-6 c = d-none (c .before .before .before .before .before .before .before .before .before .before .before .before .before .before .args .line .now) (c .before .before .before .before .before .before .before .before .before .before .before .next-token .result) (c .before .before .before .before .before .before .before .before .before .before .before .next-token .ensures) (c .before .before .before .before .before .before .before .before .before .keyword-byte .result) (c .before .before .before .before .before .before .before .before .before .keyword-byte .ensures) (c .before .before .before .before .before .before .before .before .if1 .left) (c .before .before .before .variables3 .result) _ (c .before .before .before .before .before .before .before .if2 .left) (c .before .before .before .before .before .before .if4 .left) (c .before .before .before .before .before .if6 .taken) (c .before .before .before .variables3 .ensures) (c .if7 .taken)
 
 -- src/form.rt:198:9
 same-length-6 : tie.Need-same-length-6
@@ -95,7 +96,7 @@ same-length-6 c = search needs
 
 -- src/form.rt:198:9
 returns-7 : tie.Need-returns-7
-returns-7 c = ?
+returns-7 c = d-some (c .before .before .before .before .before .before .before .before .before .before .before .before .before .before .args .line .now) (c .before .before .before .before .before .before .before .before .before .before .before .next-token .result) (c .before .before .before .before .before .before .before .before .before .before .before .next-token .ensures) (c .before .before .before .before .before .before .before .before .before .keyword-byte .result) (c .before .before .before .before .before .before .before .before .before .keyword-byte .ensures) (c .before .before .before .before .before .before .before .before .if1 .left) (c .before .before .before .variables3 .result) _ (c .before .before .before .before .before .before .before .if2 .left) (c .before .before .before .before .before .before .if4 .left) (c .before .before .before .before .before .if6 .taken) (c .before .before .before .variables3 .ensures) (c .if7 .left)
 
 -- src/form.rt:200:5
 clause-form-requires : tie.Need-clause-form-requires
@@ -107,7 +108,7 @@ same-length-7 c = search needs
 
 -- src/form.rt:168:1
 returns-8 : tie.Need-returns-8
-returns-8 c = ?
+returns-8 c = clause-line (c .before .before .before .before .before .before .before .before .before .before .before .before .before .args .line .now) (c .before .before .before .before .before .before .before .before .before .before .next-token .result) (c .before .before .before .before .before .before .before .before .before .before .next-token .ensures) (c .before .before .before .before .before .before .before .before .keyword-byte .result) (c .before .before .before .before .before .before .before .before .keyword-byte .ensures) (c .before .before .before .before .before .before .before .if1 .left) 0 _ (c .before .before .before .before .before .before .if2 .left) (c .before .before .before .before .before .if4 .left) (c .before .before .before .before .if6 .left) (c .before .before .clause-form .result) (c .before .before .clause-form .ensures)
 
 pub tokens-form-spec : {M : Type 1} → statement M
 tokens-form-spec =

@@ -1,4 +1,6 @@
+use native.Mathlib.Omega.{arith}
 use borrow.Author.Needs.{needs}
+use Rattle.forms.proofs.Laws.Forms.{variables-end, variables-open, variables-count}
 use Rattle.forms.proofs.form.variables.Statement.{statement}
 use Rattle.forms.proofs.form.variables.Tie as tie
 use Rattle.forms.proofs.form.variables.Reads as reads
@@ -7,7 +9,7 @@ use Rattle.forms.proofs.form.gather.Reads as gather-reads
 
 -- src/form.rt:146:9
 returns : tie.Need-returns
-returns c = ?
+returns c = variables-end (c .before .before .before .args .line .now) (c .before .before .before .args .i) _ (c .if1 .taken)
 
 -- src/form.rt:148:26
 add-gather : tie.Need-add-gather
@@ -31,7 +33,7 @@ same-length c = search needs
 
 -- src/form.rt:150:9
 returns-2 : tie.Need-returns-2
-returns-2 c = ?
+returns-2 c = variables-open (c .before .before .before .before .before .before .before .before .before .args .line .now) (c .before .before .before .before .before .before .before .before .before .args .i) _ (omega arith) (c .before .before .before .before .gather .result) (c .before .before .before .before .gather .ensures) (c .enum-told .given .1)
 
 -- src/form.rt:141:1
 same-length-2 : tie.Need-same-length-2
@@ -39,7 +41,7 @@ same-length-2 c = search needs
 
 -- src/form.rt:141:1
 returns-3 : tie.Need-returns-3
-returns-3 c = ?
+returns-3 c = variables-count (c .before .before .before .before .before .before .before .before .before .before .args .line .now) (c .before .before .before .before .before .before .before .before .before .before .args .i) _ (omega arith) (c .before .before .before .before .before .gather .result) (c .before .before .before .before .before .gather .ensures) (c .before .a .given .0 .0) (c .before .a .given .1)
 
 pub variables-spec : {M : Type 1} → statement M
 variables-spec =

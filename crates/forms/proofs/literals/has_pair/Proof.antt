@@ -1,8 +1,7 @@
-use mathlib.Core.Path.{_≡_, refl, sym, ap, _∙_}
-use Prim.Native.Nat.{ℕ, suc, _+_, _-_, _*_, _^_, _≤_, _<_}
+use mathlib.Core.Path.{_≡_, refl}
+use Prim.Native.Nat.{_-_, _≤_}
 use native.Mathlib.Omega.{arith}
-use borrow.Author.Needs.{needs}
-use lib.ListN.{length, take, drop, getD, set}
+use lib.ListN.{take, drop}
 use Rattle.forms.specs.Ranks.{sideBySide}
 use Rattle.forms.proofs.Laws.Ranks.{pair-found, pair-more, pair-none}
 use Rattle.forms.proofs.literals.has_pair.Statement.{statement}

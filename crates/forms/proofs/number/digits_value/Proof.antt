@@ -1,13 +1,11 @@
 use mathlib.Core.Path.{_≡_, refl, sym, ap, _∙_}
-use Prim.Native.Nat.{ℕ, suc, _+_, _-_, _*_, _^_, _≤_, _<_}
+use Prim.Native.Nat.{_-_, _^_, _≤_, _<_}
 use native.Mathlib.Omega.{arith}
 use borrow.Author.Needs.{needs}
-use lib.ListN.{length, take, drop, getD, set}
+use lib.ListN.{length, drop, getD}
 use Rattle.dqbf.specs.Limits.{digitLimit}
-use mathlib.Core.Option.{none, some}
 use Rattle.forms.specs.Working.{digitsFrom, plusOne}
-use Rattle.forms.proofs.Laws.Numbers.{digits-low, digits-high, digits-more, digits-end, ten-more, ten-le}
-use Rattle.forms.proofs.Laws.Numbers.{ten-fits}
+use Rattle.forms.proofs.Laws.Numbers.{digits-low, digits-high, digits-more, digits-end, ten-more, ten-le, ten-fits}
 use Rattle.forms.proofs.number.digits_value.Statement.{statement}
 use Rattle.forms.proofs.number.digits_value.Tie as tie
 use Rattle.forms.proofs.number.digits_value.Reads as reads

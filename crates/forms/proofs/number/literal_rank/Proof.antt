@@ -1,4 +1,7 @@
+use mathlib.Core.Path.{sym}
+use native.Mathlib.Omega.{arith}
 use borrow.Author.Needs.{needs}
+use Rattle.forms.proofs.Laws.Numbers.{rank-empty, rank-minus-none, rank-minus, rank-plain}
 use Rattle.forms.proofs.number.literal_rank.Statement.{statement}
 use Rattle.forms.proofs.number.literal_rank.Tie as tie
 use Rattle.forms.proofs.number.literal_rank.Reads as reads
@@ -7,7 +10,7 @@ use Rattle.forms.proofs.number.number.Reads as number-reads
 
 -- src/number.rt:71:9
 returns : tie.Need-returns
-returns c = ?
+returns c = sym (rank-empty (c .before .before .args .token .now) (c .if1 .taken))
 
 -- src/number.rt:73:8
 shared-slice-read-if2 : tie.Need-shared-slice-read-if2
@@ -31,7 +34,7 @@ number-requires c κs = search needs
 
 -- src/number.rt:76:13
 returns-2 : tie.Need-returns-2
-returns-2 c = ?
+returns-2 c = sym (rank-minus-none (c .before .before .before .before .before .before .before .args .token .now) (c .before .before .before .before .before .if1 .left) (c .before .before .before .if2 .taken) (c .before .number .result) (c .before .number .ensures .0) (c .if3 .taken))
 
 -- src/number.rt:78:21
 sub-result : tie.Need-sub-result
@@ -47,7 +50,7 @@ add-result c = search needs
 
 -- src/number.rt:78:9
 returns-3 : tie.Need-returns-3
-returns-3 c = ?
+returns-3 c = sym (rank-minus (c .before .before .before .before .before .before .before .args .token .now) (c .before .before .before .before .before .if1 .left) (c .before .before .before .if2 .taken) (c .before .number .result) (c .before .number .ensures .0) (c .if3 .left))
 
 -- src/number.rt:80:9
 number-requires-2 : tie.Need-number-requires-2
@@ -55,7 +58,7 @@ number-requires-2 c κs = search needs
 
 -- src/number.rt:82:9
 returns-4 : tie.Need-returns-4
-returns-4 c = ?
+returns-4 c = let e = rank-plain (c .before .before .before .before .before .before .args .token .now) (c .before .number2 .result) (c .before .before .before .before .if1 .left) (c .before .before .if2 .left) (c .before .number2 .ensures .0) in omega arith
 
 -- src/number.rt:84:10
 sub-result-2 : tie.Need-sub-result-2
@@ -67,7 +70,7 @@ mul-result-2 c = search needs
 
 -- src/number.rt:67:1
 returns-5 : tie.Need-returns-5
-returns-5 c = ?
+returns-5 c = sym (rank-plain (c .before .before .before .before .before .before .args .token .now) (c .before .number2 .result) (c .before .before .before .before .if1 .left) (c .before .before .if2 .left) (c .before .number2 .ensures .0))
 
 pub literal-rank-spec : {M : Type 1} → statement M
 literal-rank-spec =

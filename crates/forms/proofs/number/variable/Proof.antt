@@ -1,4 +1,7 @@
+use mathlib.Core.Path.{sym}
+use native.Mathlib.Omega.{arith}
 use borrow.Author.Needs.{needs}
+use Rattle.forms.proofs.Laws.Numbers.{variable-is}
 use Rattle.forms.proofs.number.variable.Statement.{statement}
 use Rattle.forms.proofs.number.variable.Tie as tie
 use Rattle.forms.proofs.number.variable.Reads as reads
@@ -11,7 +14,7 @@ number-requires c κs = search needs
 
 -- src/number.rt:61:9
 returns : tie.Need-returns
-returns c = ?
+returns c = let e = variable-is (c .before .before .before .args .token .now) (c .before .number .result) (c .before .number .ensures .0) in omega arith
 
 -- src/number.rt:63:5
 sub-result : tie.Need-sub-result
@@ -19,7 +22,7 @@ sub-result c = search needs
 
 -- src/number.rt:56:1
 returns-2 : tie.Need-returns-2
-returns-2 c = ?
+returns-2 c = sym (variable-is (c .before .before .before .args .token .now) (c .before .number .result) (c .before .number .ensures .0))
 
 pub variable-spec : {M : Type 1} → statement M
 variable-spec = tie.close (tie.spec number-requires returns sub-result returns-2)

@@ -1,8 +1,7 @@
-use mathlib.Core.Path.{_≡_, refl, sym, ap, _∙_}
-use Prim.Native.Nat.{ℕ, suc, _+_, _-_, _*_, _^_, _≤_, _<_}
+use mathlib.Core.Path.{_≡_}
+use Prim.Native.Nat.{_+_, _-_, _≤_}
 use native.Mathlib.Omega.{arith}
-use borrow.Author.Needs.{needs}
-use lib.ListN.{length, take, drop, getD, set}
+use lib.ListN.{length, drop}
 use Rattle.forms.specs.Working.{lengthBefore}
 use Rattle.forms.proofs.Laws.Pieces.{before-hit, before-miss, before-end}
 use Rattle.forms.proofs.text.length_before.Statement.{statement}
