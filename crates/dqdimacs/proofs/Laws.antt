@@ -6,3 +6,5 @@ pub mod Finishing
 pub mod Reading
 pub mod Fresh
 pub mod Declaring
+pub mod LineTests
+pub mod PrefixLines

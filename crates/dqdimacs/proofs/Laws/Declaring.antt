@@ -16,7 +16,7 @@ use lib.Dec.{leb, ltb, eqb}
 use lib.ListN.{length, getD, take, set, length-append, List·getD-append}
 use lib.Seq.{take-suc, take-all}
 use Rattle.dqbf.specs.Limits.{variableLimit, universalLimit}
-use Rattle.dqbf.specs.Refusal.{Refusal, refusal, Test, first, _when_}
+use Rattle.dqbf.specs.Refusal.{first}
 use Rattle.dqbf.specs.Literal.{_∈_, sorted}
 use Rattle.dqbf.specs.Set.{Set, single, union}
 use Rattle.dqbf.specs.Formula.{Declaration, onA, onE, onD, Formula, universals, universalsOf, declared}
@@ -31,7 +31,7 @@ use Rattle.tables.specs.declared.State.{State}
 use Rattle.tables.proofs.Laws.Rows.{over-set}
 use Rattle.dqdimacs.specs.Pending.{subject, kindWhile, setWhile, given, pendingKind, pending}
 use Rattle.dqdimacs.specs.Rows.{declarable}
-use Rattle.dqdimacs.specs.Lines.{phaseNumber, progressOf, refusalOf, universalAdded, onLine, ReadSoFar, DeclaredAll, OneMore}
+use Rattle.dqdimacs.specs.Lines.{phaseNumber, progressOf, universalAdded, onLine, ReadSoFar, DeclaredAll, OneMore}
 use Rattle.dqdimacs.specs.declared.progress.Progress.{Progress}
 use Rattle.dqdimacs.specs.declared.progress.LineAnswer.{LineAnswer}
 use Rattle.dqdimacs.proofs.Laws.Rows.{row-length, row-at}
@@ -146,11 +146,11 @@ module _ {t : Tables} {r : Reader} {p : Progress} {now : Tables} (h : ReadSoFar 
 
 -- ---- one variable of an `a` line or an `e` line
 
-no-tests : first [] ≡ none
+pub no-tests : first [] ≡ none
 unfolding first
 no-tests = refl
 
-inside-prefix : {ph : Phase} → ph ≡ prefixLines → not (takesPrefix ph) ≡ false
+pub inside-prefix : {ph : Phase} → ph ≡ prefixLines → not (takesPrefix ph) ≡ false
 inside-prefix e = unfold takesPrefix in rw e
 
 module _ {t : Tables} {r : Reader} {p : Progress} {now : Tables} (h : ReadSoFar t r p now) (inside : r .phase ≡ prefixLines) (x : ℕ) (some : x ≡ 0 → ⊥)
@@ -282,20 +282,3 @@ module _ (universal : Bool) (xs : List ℕ) (t : Tables) (r : Reader) where
 
   pub all-done : (i : ℕ) → length xs ≤ i → {p : Progress} {now : Tables} → Declared i p now → DeclaredAll universal xs t r (record { progress = p; refusal = 0 }) now
   all-done i e h = let w : take i xs ≡ xs = take-all i xs e in record { told = rw (rw w at (h .0)); held = λ z. rw w at (h .1) }
-
--- ---- lines
-
-told-number : (b : Bool) (n : ℕ) → first ((refusal (suc n) when b) ∷ []) ≡ refusalOf (cond b (suc n) 0)
-unfolding first refusalOf
-told-number true n = refl
-told-number false n = refl
-
--- a test that fails
-pub test-fails : (n : ℕ) (b : Bool) (ts : List Test) → b ≡ true → first ((refusal (suc n) when b) ∷ ts) ≡ refusalOf (suc n)
-unfolding first refusalOf
-test-fails n b ts e = rw e
-
--- a test that passes
-pub test-passes : (x : Refusal) (b : Bool) (ts : List Test) → b ≡ false → first ((x when b) ∷ ts) ≡ first ts
-unfolding first
-test-passes x b ts e = rw e

@@ -1,5 +1,5 @@
 -- Declarations while the text is read: kinds and sets of variables (specs/Pending.antt) and the calculus' declared variables and universals.
---     kind-declared, kind-universal                a variable is declared, or a universal, by its kind
+--     kind-declared, kind-universal, set-universal      a variable is declared, or a universal, by its kind; a universal's set
 --     given-other, given-new, given-same           one more declaration
 --     place-grown, place-new, word-grown, word-more, places-more, set-grown     more universals: earlier places and sets stay
 -- Assumes nothing.
@@ -66,6 +66,27 @@ kind-universal (onD y S ∷ ds) x o = go (eqb x y) refl (kind-universal ds x (o 
     go : (b : Bool) → eqb x y ≡ b → eqb (given kindWhile ds x) 1 ≡ elem x (universalsOf ds) → eqb (cond b 2 (given kindWhile ds x)) 1 ≡ elem x (universalsOf ds)
     go true q e = sym (never (elem x (universalsOf ds)) (λ h. o .0 (rw (eqb-is x y q) at (universals-declared ds x (elem-in x (universalsOf ds) h)))))
     go false q e = e
+
+-- a universal's set is its own place
+pub set-universal : (us : List ℕ) (ds : List Declaration) (x : ℕ) → pendingKind ds x ≡ 1 → pendingSet us ds x ≡ single (place us x)
+unfolding given subject kindWhile setWhile
+set-universal us [] x h = absurd (omega arith)
+set-universal us (onA y ∷ ds) x h = go (eqb x y) refl h (λ k. set-universal us ds x k)
+  where
+    go : (b : Bool) → eqb x y ≡ b → cond b 1 (given kindWhile ds x) ≡ 1 → (given kindWhile ds x ≡ 1 → given (setWhile us) ds x ≡ single (place us x))
+        → cond b (single (place us y)) (given (setWhile us) ds x) ≡ single (place us x)
+    go true e k ih = rw (eqb-is x y e)
+    go false e k ih = ih k
+set-universal us (onE y ∷ ds) x h = go (eqb x y) h (λ k. set-universal us ds x k)
+  where
+    go : (b : Bool) → cond b 4 (given kindWhile ds x) ≡ 1 → (given kindWhile ds x ≡ 1 → given (setWhile us) ds x ≡ single (place us x)) → cond b 0 (given (setWhile us) ds x) ≡ single (place us x)
+    go true k ih = absurd (omega arith)
+    go false k ih = ih k
+set-universal us (onD y S ∷ ds) x h = go (eqb x y) h (λ k. set-universal us ds x k)
+  where
+    go : (b : Bool) → cond b 2 (given kindWhile ds x) ≡ 1 → (given kindWhile ds x ≡ 1 → given (setWhile us) ds x ≡ single (place us x)) → cond b (wordOf us S) (given (setWhile us) ds x) ≡ single (place us x)
+    go true k ih = absurd (omega arith)
+    go false k ih = ih k
 
 -- ---- one more declaration
 
