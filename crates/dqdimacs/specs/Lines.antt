@@ -1,20 +1,21 @@
 -- The lines read so far, as the code carries them: a reader of the calculus (dqbf, specs/Reading.antt) that the tables and a `Progress` by value hold.
 --     phaseNumber, progressOf        a reader by value
 --     refusalOf                      a number of refusal, 0 for none, as the first test that applies
---     ReadSoFar, LineRead            what the tables hold between two lines, and behind a line
+--     ReadSoFar, Known, LineRead     what the tables hold between two lines, and behind a line
 --     onLine, universalAdded, DeclaredAll     variables of an `a` or an `e` line declared one after the other
 use mathlib.Core.Path.{_≡_}
 use mathlib.Core.Bool.{Bool, true, false, cond}
 use mathlib.Core.List.{List, [], map}
 use mathlib.Core.Option.{Option, none, some}
 use Prim.Native.Nat.{ℕ, zero, suc, _+_, _≤_}
-use lib.ListN.{length}
+use lib.ListN.{length, take}
 use Rattle.dqbf.specs.Refusal.{Refusal, refusal, first}
 use Rattle.dqbf.specs.Set.{Set, union}
 use Rattle.dqbf.specs.Formula.{Declaration, onA, onE, universals, declared}
 use Rattle.dqbf.specs.Model.{wordOf}
 use Rattle.dqbf.specs.Reading.{Form, Phase, opening, prefixLines, clauseLines, Reader, start, fresh, lineTests, declaring, taken}
 use Rattle.dqbf.proofs.Reading.Lines.{Sane}
+use Rattle.forms.specs.Order.{allInserted}
 use Rattle.tables.specs.Tables.{Tables}
 use Rattle.tables.specs.Spread.{spread, stateOf}
 use Rattle.tables.specs.WellFormed.{long}
@@ -47,6 +48,10 @@ pub record ReadSoFar (t : Tables) (r : Reader) (p : Progress) (now : Tables) : T
   pub few : length (r .formula .clauses) ≤ r .count
   pub progress : p ≡ progressOf r
   pub tables : now ≡ spread (pending (r .formula)) t
+
+-- The front of `known` has the different numbers on the `a` lines so far, in ascending order.
+abbrev pub Known : Reader → List ℕ → Type 0
+Known r known = take (length (universals (r .formula))) known ≡ allInserted [] (universals (r .formula))
 
 -- A line of a form was read: its first test that applies, and what the tables hold where none does.
 pub record LineRead (t : Tables) (r : Reader) (f : Form) (a : LineAnswer) (now : Tables) : Type 0 where

@@ -6,15 +6,16 @@ ghost use Prim.Native.Nat.{ℕ, _+_, _≤_, _<_};
 ghost use lib.IntN.{ℤ};
 ghost use lib.ListN.{length, getD, drop};
 ghost use Rattle.dqbf.specs.Limits.{universalLimit};
-ghost use Rattle.dqbf.specs.Reading.{Reader, prefixLines, eLine, dLine};
+ghost use Rattle.dqbf.specs.Reading.{Reader, prefixLines, aLine, eLine, dLine, taken};
 ghost use Rattle.tables.specs.Tables.{Tables, tablesOf};
 ghost use Rattle.tables.specs.WellFormed.{allOf};
 ghost use Rattle.dqdimacs.specs.Rows.{Declared, isUniversal, unionOf};
-ghost use Rattle.dqdimacs.specs.Lines.{ReadSoFar, LineRead, DeclaredAll, OneMore};
+ghost use Rattle.dqdimacs.specs.Lines.{ReadSoFar, Known, LineRead, DeclaredAll, OneMore};
 use super::progress;
 use super::progress::LineAnswer;
 use super::progress::Progress;
 use super::refusal;
+use forms::order;
 use tables::VariableNumber;
 use tables::entries;
 
@@ -206,4 +207,43 @@ pub fn dependent_line(
         progress,
         refusal: refusal::NONE,
     }
+}
+
+// An `a` line. `known` has the different numbers on the `a` lines so far, in ascending order.
+pub fn universal_line(
+    variables: &[u32],
+    known: &mut [u32],
+    progress: Progress,
+    sets: &mut [u64],
+    kinds: &mut [u8],
+) -> LineAnswer
+    requires { ⌜ ((i : ℕ) → i < length (now variables) → 0 < getD (now variables) i 0) × (progress .state .bound .0 ≤ length (now sets))
+        × (progress .state .bound .0 ≤ length (now kinds)) × (progress .state .universals ≤ universalLimit) × (universalLimit < length (now known)) ⌝ }
+    ensures { λ r. ⌜ ((t : Tables) (reader : Reader) (literals : List ℤ) (ends : List ℕ)
+        → ReadSoFar t reader progress (tablesOf literals ends (now (sets .entry)) (now (kinds .entry))) → Known reader (now (known .entry))
+        → LineRead t reader (aLine (now (variables .entry))) r (tablesOf literals ends (now (sets .exit)) (now (kinds .exit)))
+        × (r .refusal ≡ 0 → Known (taken reader (aLine (now (variables .entry)))) (now (known .exit)))) ⌝ }
+{
+    if progress.phase != progress::PREFIX_LINES {
+        return LineAnswer {
+            progress,
+            refusal: refusal::NO_FORM,
+        };
+    }
+    let state = progress.state;
+    let before = state.universals as usize;
+    let count = order::insert_all(variables, variables.len(), known, before, 64);
+    if count > 64 {
+        return LineAnswer {
+            progress,
+            refusal: refusal::OVER_LIMIT,
+        };
+    }
+    if count - before != variables.len() {
+        return LineAnswer {
+            progress,
+            refusal: refusal::VARIABLE,
+        };
+    }
+    declare_all(variables, true, progress, sets, kinds)
 }

@@ -239,7 +239,7 @@ unfolding onLine
 declared-on true xs = declared-a xs
 declared-on false xs = declared-e xs
 
-passed-told : (b : Bool) {n : ℕ} → n ≡ cond b 0 12 → n ≡ 0 → b ≡ true
+pub passed-told : (b : Bool) {n : ℕ} → n ≡ cond b 0 12 → n ≡ 0 → b ≡ true
 passed-told true e z = refl
 passed-told false e z = absurd (omega arith)
 

@@ -1,4 +1,11 @@
 use borrow.Author.Needs.{needs}
+use mathlib.Core.Path.{_≡_, refl, ap, sym, _∙_}
+use native.Mathlib.Omega.{arith}
+use borrow.Author.Tests.{not-false}
+use lib.ListN.{length, drop, getD}
+use lib.Seq.{length-take-le}
+use Rattle.dqbf.proofs.Laws.Parts.{tail-lent}
+use Rattle.dqdimacs.proofs.Laws.PrefixLines.{d-late, d-stranger, d-refused, d-read}
 use Rattle.dqdimacs.proofs.declarations.dependent_line.Statement.{statement}
 use Rattle.dqdimacs.proofs.declarations.dependent_line.Tie as tie
 use Rattle.dqdimacs.proofs.declarations.dependent_line.Reads as reads
@@ -9,7 +16,7 @@ use Rattle.dqdimacs.proofs.declarations.union_of.Reads as union-of-read
 
 -- src/declarations.rt:178:9
 returns : tie.Need-returns
-returns c = ?
+returns c = λ t r l e h. d-late h (c .if1 .taken) (getD (c .before .before .before .before .before .args .numbers .now) 0 0) (drop 1 (c .before .before .before .before .before .args .numbers .now))
 
 -- src/declarations.rt:182:15
 cast-end : tie.Need-cast-end
@@ -33,7 +40,7 @@ slice-reshare-prefix-all-universal c = search needs
 
 -- src/declarations.rt:183:38
 slice-aggregate-all-universal : tie.Need-slice-aggregate-all-universal
-slice-aggregate-all-universal c = ?
+slice-aggregate-all-universal c = sym (length-take-le _ (c .before .before .before .before .before .before .before .before .before .before .args .kinds .now) (omega arith))
 
 -- src/declarations.rt:183:9
 all-universal-requires : tie.Need-all-universal-requires
@@ -45,7 +52,9 @@ same-length c = search needs
 
 -- src/declarations.rt:184:9
 returns-2 : tie.Need-returns-2
-returns-2 c = ?
+returns-2 c =
+    let xs = c .before .before .before .before .before .before .before .before .before .before .before .before .args .numbers .now in
+    λ t r l e h. d-stranger h (c .before .before .before .before .before .before .before .if1 .left) (getD xs 0 0) (drop 1 xs) (rw (tail-lent xs 1) at (c .before .all-universal .ensures)) (c .if2 .taken)
 
 -- src/declarations.rt:186:24
 sub-union-of : tie.Need-sub-union-of
@@ -65,7 +74,7 @@ slice-reshare-prefix-union-of c = search needs
 
 -- src/declarations.rt:186:39
 slice-aggregate-union-of : tie.Need-slice-aggregate-union-of
-slice-aggregate-union-of c = ?
+slice-aggregate-union-of c = sym (length-take-le _ (c .before .before .before .before .before .before .before .before .before .before .before .before .before .before .args .sets .now) (omega arith))
 
 -- src/declarations.rt:186:9
 union-of-requires : tie.Need-union-of-requires
@@ -89,7 +98,9 @@ same-length-3 c = search needs
 
 -- src/declarations.rt:188:9
 returns-3 : tie.Need-returns-3
-returns-3 c = ?
+returns-3 c =
+    let xs = c .before .before .before .before .before .before .before .before .before .before .before .before .before .before .before .before .before .before .before .before .before .before .before .before .args .numbers .now in
+    λ t r l e h. d-refused h (c .before .before .before .before .before .before .before .before .before .before .before .before .before .before .before .before .before .before .before .if1 .left) (getD xs 0 0) (drop 1 xs) (rw (tail-lent xs 1) at (c .before .before .before .before .before .before .before .before .before .before .before .before .before .all-universal .ensures)) (c .before .before .before .before .before .before .before .before .before .before .before .before .if2 .left) (rw (tail-lent xs 1) at (c .before .before .before .before .before .before .before .before .before .union-of .ensures)) (omega arith) (c .before .before .before .before .before .declare .ensures .told) (c .if3 .taken)
 
 -- src/declarations.rt:165:1
 same-length-4 : tie.Need-same-length-4
@@ -101,7 +112,10 @@ same-length-5 c = search needs
 
 -- src/declarations.rt:165:1
 returns-4 : tie.Need-returns-4
-returns-4 c = ?
+returns-4 c =
+    let xs = c .before .before .before .before .before .before .before .before .before .before .before .before .before .before .before .before .before .before .before .before .before .before .before .before .args .numbers .now in
+    let q = not-false _ (c .if3 .left) in
+    λ t r l e h. d-read h (c .before .before .before .before .before .before .before .before .before .before .before .before .before .before .before .before .before .before .before .if1 .left) (getD xs 0 0) (drop 1 xs) (rw (tail-lent xs 1) at (c .before .before .before .before .before .before .before .before .before .before .before .before .before .all-universal .ensures)) (c .before .before .before .before .before .before .before .before .before .before .before .before .if2 .left) (rw (tail-lent xs 1) at (c .before .before .before .before .before .before .before .before .before .union-of .ensures)) (omega arith) (c .before .before .before .before .before .declare .ensures .told) (c .if3 .left) (c .before .before .before .before .before .declare .ensures .sets-set q) (c .before .before .before .before .before .declare .ensures .kinds-set q)
 
 pub dependent-line-spec : {M : Type 1} → statement M
 dependent-line-spec =
