@@ -8,3 +8,4 @@ pub mod Fresh
 pub mod Declaring
 pub mod LineTests
 pub mod PrefixLines
+pub mod ClauseLines

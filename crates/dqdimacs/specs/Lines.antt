@@ -2,6 +2,7 @@
 --     phaseNumber, progressOf        a reader by value
 --     refusalOf                      a number of refusal, 0 for none, as the first test that applies
 --     ReadSoFar, Known, LineRead     what the tables hold between two lines, and behind a line
+--     Within, clauseAdded            the counts
 --     onLine, universalAdded, DeclaredAll     variables of an `a` or an `e` line declared one after the other
 use mathlib.Core.Path.{_≡_}
 use mathlib.Core.Bool.{Bool, true, false, cond}
@@ -9,6 +10,7 @@ use mathlib.Core.List.{List, [], map}
 use mathlib.Core.Option.{Option, none, some}
 use Prim.Native.Nat.{ℕ, zero, suc, _+_, _≤_}
 use lib.ListN.{length, take}
+use Rattle.dqbf.specs.Limits.{variableLimit, universalLimit, clauseLimit, literalLimit}
 use Rattle.dqbf.specs.Refusal.{Refusal, refusal, first}
 use Rattle.dqbf.specs.Set.{Set, union}
 use Rattle.dqbf.specs.Formula.{Declaration, onA, onE, universals, declared}
@@ -19,6 +21,7 @@ use Rattle.forms.specs.Order.{allInserted}
 use Rattle.tables.specs.Tables.{Tables}
 use Rattle.tables.specs.Spread.{spread, stateOf}
 use Rattle.tables.specs.WellFormed.{long}
+use Rattle.tables.specs.Adding.{clauseEnded, formulaCounted}
 use Rattle.dqdimacs.specs.Pending.{pending}
 use Rattle.dqdimacs.specs.declared.progress.Progress.{Progress}
 use Rattle.dqdimacs.specs.declared.progress.LineAnswer.{LineAnswer}
@@ -57,6 +60,20 @@ Known r known = take (length (universals (r .formula))) known ≡ allInserted []
 pub record LineRead (t : Tables) (r : Reader) (f : Form) (a : LineAnswer) (now : Tables) : Type 0 where
   pub told : first (lineTests r f) ≡ refusalOf (a .refusal)
   pub held : a .refusal ≡ 0 → ReadSoFar t (taken r f) (a .progress) now
+
+-- the counts are within the limits
+pub record Within (p : Progress) : Type 0 where
+  pub bound : p .state .bound .0 ≤ variableLimit
+  pub variables : p .state .variables .0 ≤ variableLimit
+  pub universals : p .state .universals ≤ universalLimit
+  pub formula : p .state .formula .0 ≤ p .state .clauses .0
+  pub clauses : p .state .clauses .0 ≤ p .count
+  pub count : p .count ≤ clauseLimit
+  pub literals : p .state .literals ≤ literalLimit
+
+-- one formula clause more, of so many literals
+unfoldable pub clauseAdded : Progress → ℕ → Progress
+clauseAdded p width = record { phase = 2; count = p .count; places = p .places; state = formulaCounted (clauseEnded (p .state) width) }
 
 -- ---- variables of an `a` line (true) or an `e` line, one after the other
 

@@ -13,6 +13,7 @@ pub struct Loaded {
     pub answer: LoadAnswer,
 }
 
+pub mod clause;
 pub mod declarations;
 pub mod progress;
 pub mod refusal;
