@@ -1,7 +1,7 @@
 -- The lines read so far, as the code carries them: a reader of the calculus (dqbf, specs/Reading.antt) that the tables and a `Progress` by value hold.
 --     phaseNumber, progressOf        a reader by value
 --     refusalOf                      a number of refusal, 0 for none, as the first test that applies
---     ReadSoFar, Known, LineRead     what the tables hold between two lines, and behind a line
+--     ReadSoFar, Known, Framed, LineRead     what the tables hold between two lines, and behind a line
 --     Within, clauseAdded            the counts
 --     onLine, universalAdded, DeclaredAll     variables of an `a` or an `e` line declared one after the other
 use mathlib.Core.Path.{_≡_}
@@ -19,7 +19,7 @@ use Rattle.dqbf.specs.Reading.{Form, Phase, opening, prefixLines, clauseLines, 
 use Rattle.dqbf.proofs.Reading.Lines.{Sane}
 use Rattle.forms.specs.Order.{allInserted}
 use Rattle.tables.specs.Tables.{Tables}
-use Rattle.tables.specs.Spread.{spread, stateOf}
+use Rattle.tables.specs.Spread.{spread, stateOf, blank}
 use Rattle.tables.specs.WellFormed.{long}
 use Rattle.tables.specs.Adding.{clauseEnded, formulaCounted}
 use Rattle.dqdimacs.specs.Pending.{pending}
@@ -56,10 +56,15 @@ pub record ReadSoFar (t : Tables) (r : Reader) (p : Progress) (now : Tables) : T
 abbrev pub Known : Reader → List ℕ → Type 0
 Known r known = take (length (universals (r .formula))) known ≡ allInserted [] (universals (r .formula))
 
+-- The entries past the stated sizes are as they were: cleared, the tables are the first ones cleared.
+abbrev pub Framed : Tables → Tables → Type 0
+Framed t now = spread blank now ≡ spread blank t
+
 -- A line of a form was read: its first test that applies, and what the tables hold where none does.
 pub record LineRead (t : Tables) (r : Reader) (f : Form) (a : LineAnswer) (now : Tables) : Type 0 where
   pub told : first (lineTests r f) ≡ refusalOf (a .refusal)
   pub held : a .refusal ≡ 0 → ReadSoFar t (taken r f) (a .progress) now
+  pub framed : Framed t now
 
 -- the counts are within the limits
 pub record Within (p : Progress) : Type 0 where
@@ -103,6 +108,7 @@ universalAdded p s = record {
 pub record DeclaredAll (universal : Bool) (xs : List ℕ) (t : Tables) (r : Reader) (a : LineAnswer) (now : Tables) : Type 0 where
   pub told : a .refusal ≡ cond (fresh (r .formula .bound) (declared (r .formula .prefix)) xs) 0 12
   pub held : a .refusal ≡ 0 → ReadSoFar t (declaring r (map (onLine universal) xs)) (a .progress) now
+  pub framed : Framed t now
 
 -- what one variable more leaves of the counts
 pub record OneMore (p : Progress) (a : LineAnswer) : Type 0 where

@@ -21,8 +21,8 @@ declarable bound kinds x = leb x bound && eqb (getD kinds (x - 1) 0) 0
 -- a variable is given its kind and its set, if it is declarable
 pub record Declared (bound x kind : ℕ) (s : Set) (sets kinds : List ℕ) (answer : Bool) (sets′ kinds′ : List ℕ) : Type 0 where
   pub told : answer ≡ declarable bound kinds x
-  pub sets-set : answer ≡ true → sets′ ≡ set sets (x - 1) s
-  pub kinds-set : answer ≡ true → kinds′ ≡ set kinds (x - 1) kind
+  pub sets-are : sets′ ≡ cond answer (set sets (x - 1) s) sets
+  pub kinds-are : kinds′ ≡ cond answer (set kinds (x - 1) kind) kinds
 
 unfoldable pub isUniversal : List ℕ → ℕ → Bool
 isUniversal kinds x = eqb (entry kinds x) 1

@@ -48,7 +48,7 @@ use Rattle.dqdimacs.specs.Lines.{phaseNumber, progressOf, refusalOf, Rea
 use Rattle.dqdimacs.specs.declared.progress.Progress.{Progress}
 use Rattle.dqdimacs.proofs.Laws.Pending.{kind-declared}
 use Rattle.dqdimacs.proofs.Laws.Models.{kind-entry, pending-clauses, pending-clause}
-use Rattle.dqdimacs.proofs.Laws.Reading.{phase-is, phase-opening, phase-late, count-is, places-is, state-is, bound-is, universals-is, clauses-is, formula-is, literals-is, kinds-front}
+use Rattle.dqdimacs.proofs.Laws.Reading.{phase-is, phase-opening, phase-late, count-is, places-is, state-is, bound-is, universals-is, clauses-is, formula-is, literals-is, framed, kinds-front}
 use Rattle.dqdimacs.proofs.Laws.Declaring.{no-tests}
 use Rattle.dqdimacs.proofs.Laws.LineTests.{test-fails, test-passes, line-refused, line-taken}
 
@@ -129,9 +129,9 @@ module _ {t : Tables} {r : Reader} {p : Progress} {now : Tables} (h : ReadSoFar 
   ranks-told (l ∷ C) = ap₂ _&&_ (rank-told l) (ranks-told C)
 
   module _ (C : Clause) where
-    pub c-late : p .phase ≡ 0 → {now′ : Tables} → LineRead t r (clauseLine C) (record { progress = p; refusal = 10 }) now′
+    pub c-late : p .phase ≡ 0 → LineRead t r (clauseLine C) (record { progress = p; refusal = 10 }) now
     unfolding lineTests takesClauses
-    c-late e = line-refused 10 (omega arith) (test-fails 10 _ _ (omega arith) (rw (phase-opening r (phase-is h) e)))
+    c-late e = line-refused 10 (omega arith) (framed h) (test-fails 10 _ _ (omega arith) (rw (phase-opening r (phase-is h) e)))
 
     module _ (begun : p .phase ≡ 0 → ⊥) {ranks : List ℕ} (is : ranks ≡ map rank C) (w : ℕ) (out : List ℕ)
         (arranged : Arranged (allInserted [] (take (length ranks) ranks)) widthLimit w out) where
@@ -147,18 +147,18 @@ module _ {t : Tables} {r : Reader} {p : Progress} {now : Tables} (h : ReadSoFar 
       abbrev heavy : Bool
       heavy = ltb literalLimit (total (map sorted (φ .clauses)) + length (sorted C))
 
-      c-11 : (wide || heavy) ≡ true → {now′ : Tables} → LineRead t r (clauseLine C) (record { progress = p; refusal = 11 }) now′
+      c-11 : (wide || heavy) ≡ true → LineRead t r (clauseLine C) (record { progress = p; refusal = 11 }) now
       unfolding lineTests
-      c-11 q = line-refused 11 (omega arith) (test-passes (refusal 10) _ _ ten ∙ test-fails 11 _ _ (omega arith) q)
+      c-11 q = line-refused 11 (omega arith) (framed h) (test-passes (refusal 10) _ _ ten ∙ test-fails 11 _ _ (omega arith) q)
 
-      pub c-wide : widthLimit < w → {now′ : Tables} → LineRead t r (clauseLine C) (record { progress = p; refusal = 11 }) now′
+      pub c-wide : widthLimit < w → LineRead t r (clauseLine C) (record { progress = p; refusal = 11 }) now
       c-wide q = c-11 (or-left wide heavy (lt-ltb widthLimit (length (sorted C)) (omega (arith, clause-count C widthLimit w out put))))
 
       module _ (narrow : w ≤ widthLimit) where
         width-is : w ≡ length (sorted C)
         width-is = omega (arith, clause-count C widthLimit w out put)
 
-        pub c-many : literalLimit < p .state .literals + w → {now′ : Tables} → LineRead t r (clauseLine C) (record { progress = p; refusal = 11 }) now′
+        pub c-many : literalLimit < p .state .literals + w → LineRead t r (clauseLine C) (record { progress = p; refusal = 11 }) now
         c-many q = c-11 (or-right wide heavy (lt-ltb literalLimit (total (map sorted (φ .clauses)) + length (sorted C)) (omega (arith, width-is, literals-is h))))
 
         module _ (light : p .state .literals + w ≤ literalLimit) {b : Bool} (known : b ≡ allOf (isDeclared (take (p .state .bound .0) (now .kinds))) (take w out)) where
@@ -170,10 +170,10 @@ module _ {t : Tables} {r : Reader} {p : Progress} {now : Tables} (h : ReadSoFar 
           b-is : b ≡ allIn (declared (φ .prefix)) (map natAbs C)
           b-is = known ∙ rw (clause-front C widthLimit w out put narrow) (ranks-told (sorted C) ∙ sorted-all (declared (φ .prefix)) C)
 
-          pub c-undeclared : not b ≡ true → {now′ : Tables} → LineRead t r (clauseLine C) (record { progress = p; refusal = 12 }) now′
+          pub c-undeclared : not b ≡ true → LineRead t r (clauseLine C) (record { progress = p; refusal = 12 }) now
           unfolding lineTests
           c-undeclared q =
-              line-refused 12 (omega arith) (test-passes (refusal 10) _ _ ten ∙ test-passes (refusal 11) _ _ eleven ∙ test-fails 12 _ _ (omega arith) (rw (← b-is) q))
+              line-refused 12 (omega arith) (framed h) (test-passes (refusal 10) _ _ ten ∙ test-passes (refusal 11) _ _ eleven ∙ test-fails 12 _ _ (omega arith) (rw (← b-is) q))
 
           module _ (all : not b ≡ false) {c : Bool} (pair : c ≡ sideBySide (take w out)) where
             twelve : not (allIn (declared (φ .prefix)) (map natAbs C)) ≡ false
@@ -182,20 +182,20 @@ module _ {t : Tables} {r : Reader} {p : Progress} {now : Tables} (h : ReadSoFar 
             c-is : c ≡ clashes (sorted C)
             c-is = pair ∙ clause-pair C widthLimit w out put narrow
 
-            pub c-clash : c ≡ true → {now′ : Tables} → LineRead t r (clauseLine C) (record { progress = p; refusal = 13 }) now′
+            pub c-clash : c ≡ true → LineRead t r (clauseLine C) (record { progress = p; refusal = 13 }) now
             unfolding lineTests
             c-clash q =
-                line-refused 13 (omega arith)
+                line-refused 13 (omega arith) (framed h)
                 (test-passes (refusal 10) _ _ ten ∙ test-passes (refusal 11) _ _ eleven ∙ test-passes (refusal 12) _ _ twelve ∙ test-fails 13 _ _ (omega arith) (sym c-is ∙ q))
 
             module _ (calm : c ≡ false) where
               thirteen : clashes (sorted C) ≡ false
               thirteen = sym c-is ∙ calm
 
-              pub c-count : p .count ≤ p .state .clauses .0 → {now′ : Tables} → LineRead t r (clauseLine C) (record { progress = p; refusal = 14 }) now′
+              pub c-count : p .count ≤ p .state .clauses .0 → LineRead t r (clauseLine C) (record { progress = p; refusal = 14 }) now
               unfolding lineTests
               c-count q =
-                  line-refused 14 (omega arith)
+                  line-refused 14 (omega arith) (framed h)
                   (test-passes (refusal 10) _ _ ten ∙ test-passes (refusal 11) _ _ eleven ∙ test-passes (refusal 12) _ _ twelve ∙ test-passes (refusal 13) _ _ thirteen
                   ∙ test-fails 14 _ _ (omega arith) (le-leb (r .count) (length (φ .clauses)) (omega (arith, count-is h, clauses-is h))))
 

@@ -37,7 +37,7 @@ use Rattle.dqdimacs.specs.declared.progress.LineAnswer.{LineAnswer}
 use Rattle.dqdimacs.proofs.Laws.Rows.{row-length, row-at}
 use Rattle.dqdimacs.proofs.Laws.Pending.{kind-declared, place-new, places-more}
 use Rattle.dqdimacs.proofs.Laws.Models.{pending-kinds, pending-sets, pending-universals, declaringTo, kinds-declared, sets-declared, map-more}
-use Rattle.dqdimacs.proofs.Laws.Reading.{countsOf, pending-state, phase-is, count-is, places-is, state-is, bound-is, universals-is, kinds-over, sets-over}
+use Rattle.dqdimacs.proofs.Laws.Reading.{countsOf, pending-state, phase-is, count-is, places-is, state-is, bound-is, universals-is, framed, kinds-over, sets-over}
 use Rattle.dqdimacs.proofs.Laws.Fresh.{fresh-one, fresh-low, fresh-new, fresh-next, fresh-stop, many-fresh}
 
 -- ---- the test of one variable
@@ -158,8 +158,13 @@ module _ {t : Tables} {r : Reader} {p : Progress} {now : Tables} (h : ReadSoFar 
   is-fresh : b ≡ fresh (r .formula .bound) (declared (r .formula .prefix)) (x ∷ [])
   is-fresh = told ∙ declarable-told h x some
 
-  pub one-refused : (universal : Bool) {now′ : Tables} → not b ≡ true → DeclaredAll universal (x ∷ []) t r (record { progress = p; refusal = 12 }) now′
-  one-refused universal e = record { told = rw (← is-fresh, not-true b e); held = λ z. absurd (omega arith) }
+  pub one-refused : (universal : Bool) (kind : ℕ) (s : Set) {sets kinds : List ℕ} → not b ≡ true → sets ≡ cond b (set (now .sets) (x - 1) s) (now .sets)
+      → kinds ≡ cond b (set (now .kinds) (x - 1) kind) (now .kinds) → DeclaredAll universal (x ∷ []) t r (record { progress = p; refusal = 12 }) (tablesOf (now .literals) (now .ends) sets kinds)
+  one-refused universal kind s e m k = record {
+    told = rw (← is-fresh, not-true b e);
+    held = λ z. absurd (omega arith);
+    framed = rw (rw (not-true b e) at m, rw (not-true b e) at k) (framed h);
+  }
 
   module _ (e : not b ≡ false) where
     ok : fresh (r .formula .bound) (declared (r .formula .prefix)) (x ∷ []) ≡ true
@@ -179,17 +184,15 @@ module _ {t : Tables} {r : Reader} {p : Progress} {now : Tables} (h : ReadSoFar 
     unfolding lineTests undeclarable
     passes-e = pass _ _ _ (inside-prefix inside) (pass _ _ _ (no-not _ ok) no-tests)
 
-    pub one-universal : {q : Progress} {s : Set} {sets kinds : List ℕ} → p .state .universals < universalLimit → s ≡ single (p .state .universals) → sets ≡ set (now .sets) (x - 1) s
-        → kinds ≡ set (now .kinds) (x - 1) 1 → q ≡ universalAdded p s → DeclaredAll true (x ∷ []) t r (record { progress = q; refusal = 0 }) (tablesOf (now .literals) (now .ends) sets kinds)
+    pub one-universal : {q : Progress} {s : Set} {sets kinds : List ℕ} → p .state .universals < universalLimit → s ≡ single (p .state .universals) → sets ≡ cond b (set (now .sets) (x - 1) s) (now .sets)
+        → kinds ≡ cond b (set (now .kinds) (x - 1) 1) (now .kinds) → q ≡ universalAdded p s → DeclaredAll true (x ∷ []) t r (record { progress = q; refusal = 0 }) (tablesOf (now .literals) (now .ends) sets kinds)
     unfolding onLine taken subject setWhile kindWhile universalsOf newOn
     one-universal {q} {s} {sets} {kinds} u w m k f =
         let own : s ≡ single (place (universals (r .formula) ++ (x ∷ [])) x) =
         w ∙ ap single (universals-is h ∙ sym (place-new (universals (r .formula)) x (not-universal (r .formula .prefix) x new))) in
-        rw f (record {
-          told = rw ok;
-          held = λ z. read-declared h (onA x) (aLine (x ∷ [])) refl (passes-a u) positive some low new
-              (progress-universal h (onA x) (aLine (x ∷ [])) refl (passes-a u) positive some low new x refl inside w) (m ∙ rw own) k;
-        })
+        let done = read-declared h (onA x) (aLine (x ∷ [])) refl (passes-a u) positive some low new
+        (progress-universal h (onA x) (aLine (x ∷ [])) refl (passes-a u) positive some low new x refl inside w) (rw (not-false b e) at m ∙ rw own) (rw (not-false b e) at k) in
+        rw f (record { told = rw ok; held = λ z. done; framed = framed done })
       where
         low : x ≤ r .formula .bound
         low = fresh-low (r .formula .bound) (declared (r .formula .prefix)) x ok
@@ -197,14 +200,13 @@ module _ {t : Tables} {r : Reader} {p : Progress} {now : Tables} (h : ReadSoFar 
         new : elem x (declared (r .formula .prefix)) ≡ false
         new = fresh-new (r .formula .bound) (declared (r .formula .prefix)) x ok
 
-    pub one-existential : {sets kinds : List ℕ} → sets ≡ set (now .sets) (x - 1) 0 → kinds ≡ set (now .kinds) (x - 1) 4
+    pub one-existential : {sets kinds : List ℕ} → sets ≡ cond b (set (now .sets) (x - 1) 0) (now .sets) → kinds ≡ cond b (set (now .kinds) (x - 1) 4) (now .kinds)
         → DeclaredAll false (x ∷ []) t r (record { progress = p; refusal = 0 }) (tablesOf (now .literals) (now .ends) sets kinds)
     unfolding onLine taken subject setWhile kindWhile universalsOf newOn
-    one-existential m k = record {
-      told = rw ok;
-      held = λ z. read-declared h (onE x) (eLine (x ∷ [])) refl passes-e positive some low new
-          (progress-other h (onE x) (eLine (x ∷ [])) refl passes-e positive some low new refl inside) m k;
-    }
+    one-existential m k =
+        let done = read-declared h (onE x) (eLine (x ∷ [])) refl passes-e positive some low new
+        (progress-other h (onE x) (eLine (x ∷ [])) refl passes-e positive some low new refl inside) (rw (not-false b e) at m) (rw (not-false b e) at k) in
+        record { told = rw ok; held = λ z. done; framed = framed done }
       where
         low : x ≤ r .formula .bound
         low = fresh-low (r .formula .bound) (declared (r .formula .prefix)) x ok
@@ -272,13 +274,14 @@ module _ (universal : Bool) (xs : List ℕ) (t : Tables) (r : Reader) where
       rw (add-one, take-suc xs i 0 more, map-more (onLine universal) (take i xs) (getD xs i 0), ← declaring-more r (map (onLine universal) (take i xs)) (onLine universal (getD xs i 0) ∷ [])) (d .held z),
     )
 
-    pub all-refused : {now″ : Tables} → (a .refusal ≡ 0 → ⊥) → DeclaredAll universal xs t r a now″
+    pub all-refused : (a .refusal ≡ 0 → ⊥) → DeclaredAll universal xs t r a now′
     all-refused n =
         let w = refused-told (fresh (r .formula .bound) (declared (r .formula .prefix) ++ take i xs) (getD xs i 0 ∷ [])) told n in
         record {
           told = w .1 ∙ rw (fresh-stop (r .formula .bound) (declared (r .formula .prefix)) xs i more (h .0) (w .0));
           held = λ z. absurd (n z);
+          framed = d .framed;
         }
 
   pub all-done : (i : ℕ) → length xs ≤ i → {p : Progress} {now : Tables} → Declared i p now → DeclaredAll universal xs t r (record { progress = p; refusal = 0 }) now
-  all-done i e h = let w : take i xs ≡ xs = take-all i xs e in record { told = rw (rw w at (h .0)); held = λ z. rw w at (h .1) }
+  all-done i e h = let w : take i xs ≡ xs = take-all i xs e in record { told = rw (rw w at (h .0)); held = λ z. rw w at (h .1); framed = framed (h .1) }

@@ -10,8 +10,9 @@ use native.Mathlib.Omega.{arith}
 use Rattle.dqbf.specs.Refusal.{Refusal, refusal, Test, _when_, first}
 use Rattle.dqbf.specs.Reading.{Form, Reader, lineTests, taken}
 use Rattle.tables.specs.Tables.{Tables}
-use Rattle.dqdimacs.specs.Lines.{refusalOf, ReadSoFar, LineRead}
+use Rattle.dqdimacs.specs.Lines.{refusalOf, ReadSoFar, Framed, LineRead}
 use Rattle.dqdimacs.specs.declared.progress.Progress.{Progress}
+use Rattle.dqdimacs.proofs.Laws.Reading.{framed}
 
 pub test-fails : (n : ℕ) (b : Bool) (ts : List Test) → 0 < n → b ≡ true → first ((refusal n when b) ∷ ts) ≡ refusalOf n
 unfolding first refusalOf
@@ -30,8 +31,8 @@ test-last (suc n) true h = refl
 test-last (suc n) false h = refl
 
 module _ {t : Tables} {r : Reader} {f : Form} {p : Progress} {now : Tables} where
-  pub line-refused : (n : ℕ) → 0 < n → first (lineTests r f) ≡ refusalOf n → LineRead t r f (record { progress = p; refusal = n }) now
-  line-refused n h e = record { told = e; held = λ z. absurd (omega arith) }
+  pub line-refused : (n : ℕ) → 0 < n → Framed t now → first (lineTests r f) ≡ refusalOf n → LineRead t r f (record { progress = p; refusal = n }) now
+  line-refused n h k e = record { told = e; held = λ z. absurd (omega arith); framed = k }
 
   pub line-taken : first (lineTests r f) ≡ refusalOf 0 → ReadSoFar t (taken r f) p now → LineRead t r f (record { progress = p; refusal = 0 }) now
-  line-taken e h = record { told = e; held = λ z. h }
+  line-taken e h = record { told = e; held = λ z. h; framed = framed h }

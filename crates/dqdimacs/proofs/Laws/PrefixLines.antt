@@ -35,7 +35,7 @@ use Rattle.dqdimacs.specs.declared.progress.Progress.{Progress}
 use Rattle.dqdimacs.specs.declared.progress.LineAnswer.{LineAnswer}
 use Rattle.dqdimacs.proofs.Laws.Pending.{kind-universal, set-universal}
 use Rattle.dqdimacs.proofs.Laws.Models.{kind-entry, set-entry}
-use Rattle.dqdimacs.proofs.Laws.Reading.{phase-is, phase-prefix, phase-other, universals-is, kinds-front, sets-front}
+use Rattle.dqdimacs.proofs.Laws.Reading.{phase-is, phase-prefix, phase-other, universals-is, framed, kinds-front, sets-front}
 use Rattle.dqdimacs.proofs.Laws.Fresh.{fresh-low, fresh-new, many-fresh}
 use Rattle.dqdimacs.proofs.Laws.Declaring.{declarable-told, read-declared, progress-other, no-tests, inside-prefix, passed-told}
 use Rattle.dqdimacs.proofs.Laws.LineTests.{test-fails, test-passes, test-last, line-refused, line-taken}
@@ -76,9 +76,9 @@ module _ {t : Tables} {r : Reader} {p : Progress} {now : Tables} (h : ReadSoFar 
   late : (p .phase ≡ 1 → ⊥) → not (takesPrefix (r .phase)) ≡ true
   late n = rw (phase-other r (phase-is h) n)
 
-  pub e-late : (p .phase ≡ 1 → ⊥) → (xs : List ℕ) → {now′ : Tables} → LineRead t r (eLine xs) (record { progress = p; refusal = 10 }) now′
+  pub e-late : (p .phase ≡ 1 → ⊥) → (xs : List ℕ) → LineRead t r (eLine xs) (record { progress = p; refusal = 10 }) now
   unfolding lineTests
-  e-late n xs = line-refused 10 (omega arith) (test-fails 10 _ _ (omega arith) (late n))
+  e-late n xs = line-refused 10 (omega arith) (framed h) (test-fails 10 _ _ (omega arith) (late n))
 
   pub e-read : p .phase ≡ 1 → (xs : List ℕ) {a : LineAnswer} {now′ : Tables} → (r .phase ≡ prefixLines → DeclaredAll false xs t r a now′) → LineRead t r (eLine xs) a now′
   unfolding lineTests undeclarable taken onLine
@@ -88,24 +88,25 @@ module _ {t : Tables} {r : Reader} {p : Progress} {now : Tables} (h : ReadSoFar 
       record {
         told = test-passes (refusal 10) _ _ (inside-prefix inside) ∙ test-last 12 (fresh (r .formula .bound) (declared (r .formula .prefix)) xs) (omega arith) ∙ ap refusalOf (sym (d .told));
         held = d .held;
+        framed = d .framed;
       }
 
   -- ---- a `d` line
 
-  pub d-late : (p .phase ≡ 1 → ⊥) → (x : ℕ) (S : List ℕ) → {now′ : Tables} → LineRead t r (dLine x S) (record { progress = p; refusal = 10 }) now′
+  pub d-late : (p .phase ≡ 1 → ⊥) → (x : ℕ) (S : List ℕ) → LineRead t r (dLine x S) (record { progress = p; refusal = 10 }) now
   unfolding lineTests
-  d-late n x S = line-refused 10 (omega arith) (test-fails 10 _ _ (omega arith) (late n))
+  d-late n x S = line-refused 10 (omega arith) (framed h) (test-fails 10 _ _ (omega arith) (late n))
 
   module _ (e : p .phase ≡ 1) (x : ℕ) (S : List ℕ) where
     abbrev inside : r .phase ≡ prefixLines
     inside = phase-prefix r (phase-is h) e
 
-    d-12 : {now′ : Tables} → (undeclarable (r .formula) (x ∷ []) || not (allIn (us r) S)) ≡ true → LineRead t r (dLine x S) (record { progress = p; refusal = 12 }) now′
+    d-12 : (undeclarable (r .formula) (x ∷ []) || not (allIn (us r) S)) ≡ true → LineRead t r (dLine x S) (record { progress = p; refusal = 12 }) now
     unfolding lineTests
-    d-12 q = line-refused 12 (omega arith) (test-passes (refusal 10) _ _ (inside-prefix inside) ∙ test-fails 12 _ _ (omega arith) q)
+    d-12 q = line-refused 12 (omega arith) (framed h) (test-passes (refusal 10) _ _ (inside-prefix inside) ∙ test-fails 12 _ _ (omega arith) q)
 
     module _ {b : Bool} (members : b ≡ allOf (isUniversal (take (p .state .bound .0) (now .kinds))) S) where
-      pub d-stranger : not b ≡ true → {now′ : Tables} → LineRead t r (dLine x S) (record { progress = p; refusal = 12 }) now′
+      pub d-stranger : not b ≡ true → LineRead t r (dLine x S) (record { progress = p; refusal = 12 }) now
       d-stranger n = d-12 (or-right (undeclarable (r .formula) (x ∷ [])) (not (allIn (us r) S)) (rw (← universals-told S, ← members) n))
 
       module _ (all : not b ≡ false) {s : Set} (word : s ≡ unionOf (take (p .state .bound .0) (now .sets)) S) (some : x ≡ 0 → ⊥) {a : Bool}
@@ -113,9 +114,10 @@ module _ {t : Tables} {r : Reader} {p : Progress} {now : Tables} (h : ReadSoFar 
         is-fresh : a ≡ fresh (r .formula .bound) (declared (r .formula .prefix)) (x ∷ [])
         is-fresh = told ∙ declarable-told h x some
 
-        pub d-refused : not a ≡ true → {now′ : Tables} → LineRead t r (dLine x S) (record { progress = p; refusal = 12 }) now′
+        pub d-refused : not a ≡ true → {sets kinds : List ℕ} → sets ≡ cond a (set (now .sets) (x - 1) s) (now .sets) → kinds ≡ cond a (set (now .kinds) (x - 1) 2) (now .kinds)
+            → LineRead t r (dLine x S) (record { progress = p; refusal = 12 }) (tablesOf (now .literals) (now .ends) sets kinds)
         unfolding undeclarable
-        d-refused n = d-12 (or-left (not (fresh (r .formula .bound) (declared (r .formula .prefix)) (x ∷ []))) (not (allIn (us r) S)) (rw (← is-fresh) n))
+        d-refused n m k = rw (rw (not-true a n) at m, rw (not-true a n) at k) (d-12 (or-left (not (fresh (r .formula .bound) (declared (r .formula .prefix)) (x ∷ []))) (not (allIn (us r) S)) (rw (← is-fresh) n)))
 
         module _ (new : not a ≡ false) where
           ok : fresh (r .formula .bound) (declared (r .formula .prefix)) (x ∷ []) ≡ true
@@ -139,20 +141,20 @@ module _ {t : Tables} {r : Reader} {p : Progress} {now : Tables} (h : ReadSoFar 
           apart : elem x (declared (r .formula .prefix)) ≡ false
           apart = fresh-new (r .formula .bound) (declared (r .formula .prefix)) x ok
 
-          pub d-read : {sets kinds : List ℕ} → sets ≡ set (now .sets) (x - 1) s → kinds ≡ set (now .kinds) (x - 1) 2
+          pub d-read : {sets kinds : List ℕ} → sets ≡ cond a (set (now .sets) (x - 1) s) (now .sets) → kinds ≡ cond a (set (now .kinds) (x - 1) 2) (now .kinds)
               → LineRead t r (dLine x S) (record { progress = p; refusal = 0 }) (tablesOf (now .literals) (now .ends) sets kinds)
           unfolding taken subject setWhile kindWhile universalsOf newOn refusalOf
           d-read m k =
               let own : s ≡ wordOf (us r ++ []) S = word ∙ union-told S known ∙ ap (λ (l : List ℕ). wordOf l S) (sym (append-nil (us r))) in
               line-taken passes
               (read-declared h (onD x S) (dLine x S) refl passes positive some low apart
-              (progress-other h (onD x S) (dLine x S) refl passes positive some low apart refl inside) (m ∙ rw own) k)
+              (progress-other h (onD x S) (dLine x S) refl passes positive some low apart refl inside) (rw (not-false a new) at m ∙ rw own) (rw (not-false a new) at k))
 
   -- ---- an `a` line
 
-  pub a-late : (p .phase ≡ 1 → ⊥) → (xs : List ℕ) → {now′ : Tables} → LineRead t r (aLine xs) (record { progress = p; refusal = 10 }) now′
+  pub a-late : (p .phase ≡ 1 → ⊥) → (xs : List ℕ) → LineRead t r (aLine xs) (record { progress = p; refusal = 10 }) now
   unfolding lineTests
-  a-late n xs = line-refused 10 (omega arith) (test-fails 10 _ _ (omega arith) (late n))
+  a-late n xs = line-refused 10 (omega arith) (framed h) (test-fails 10 _ _ (omega arith) (late n))
 
   module _ (e : p .phase ≡ 1) (xs known : List ℕ) (knows : Known r known) (n : ℕ) (out : List ℕ)
       (arranged : Arranged (allInserted (take (p .state .universals) known) (take (length xs) xs)) universalLimit n out) where
@@ -166,10 +168,10 @@ module _ {t : Tables} {r : Reader} {p : Progress} {now : Tables} (h : ReadSoFar 
     counted = universals-count (us r) xs universalLimit n out put
 
     -- 11: more than 64 different numbers
-    pub a-over : universalLimit < n → {now′ : Tables} → LineRead t r (aLine xs) (record { progress = p; refusal = 11 }) now′
+    pub a-over : universalLimit < n → LineRead t r (aLine xs) (record { progress = p; refusal = 11 }) now
     unfolding lineTests
     a-over w =
-        line-refused 11 (omega arith)
+        line-refused 11 (omega arith) (framed h)
         (test-passes (refusal 10) _ _ (inside-prefix within) ∙ test-fails 11 _ _ (omega arith) (lt-ltb universalLimit (length (different (us r ++ xs))) (omega (arith, counted))))
 
     module _ (few : n ≤ universalLimit) where
@@ -180,12 +182,12 @@ module _ {t : Tables} {r : Reader} {p : Progress} {now : Tables} (h : ReadSoFar 
       eleven = le-ltb universalLimit (length (different (us r ++ xs))) (omega (arith, total))
 
       -- 12: a number stands twice on the line, or is a universal already
-      pub a-repeated : (n - p .state .universals ≡ length xs → ⊥) → {now′ : Tables} → LineRead t r (aLine xs) (record { progress = p; refusal = 12 }) now′
+      pub a-repeated : (n - p .state .universals ≡ length xs → ⊥) → LineRead t r (aLine xs) (record { progress = p; refusal = 12 }) now
       unfolding lineTests undeclarable
       a-repeated d =
           let stale : fresh (r .formula .bound) (declared (r .formula .prefix)) xs ≡ false =
           never _ (λ k. d (omega (arith, many-fresh (r .formula .bound) (r .formula .prefix) xs (h .sane .once) k, total, universals-is h))) in
-          line-refused 12 (omega arith)
+          line-refused 12 (omega arith) (framed h)
           (test-passes (refusal 10) _ _ (inside-prefix within) ∙ test-passes (refusal 11) _ _ eleven ∙ test-fails 12 _ _ (omega arith) (rw stale))
 
       module _ (all : n - p .state .universals ≡ length xs) {a : LineAnswer} {now′ : Tables} (call : r .phase ≡ prefixLines → DeclaredAll true xs t r a now′) where
@@ -197,6 +199,7 @@ module _ {t : Tables} {r : Reader} {p : Progress} {now : Tables} (h : ReadSoFar 
               told = test-passes (refusal 10) _ _ (inside-prefix within) ∙ test-passes (refusal 11) _ _ eleven
                   ∙ test-last 12 (fresh (r .formula .bound) (declared (r .formula .prefix)) xs) (omega arith) ∙ ap refusalOf (sym (d .told));
               held = d .held;
+              framed = d .framed;
             }
 
         pub a-known : a .refusal ≡ 0 → Known (taken r (aLine xs)) out

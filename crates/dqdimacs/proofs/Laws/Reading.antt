@@ -2,7 +2,7 @@
 --     countsOf, pending-state, model-state     the state of a model that is read
 --     bound-is, universals-is, ..              the counts
 --     kinds-front, sets-front, ..              the entries in use
---     lent-now                                 the tables are long enough
+--     long-now, lent-now, framed               the tables are long enough, and their entries past the stated sizes as they were
 -- Assumes nothing.
 use mathlib.Core.Path.{_≡_, refl, ap, sym, _∙_}
 use mathlib.Core.Bool.{Bool, true, false}
@@ -19,14 +19,14 @@ use Rattle.dqbf.specs.Model.{Model, clauses, used, steps, universalCount, empty
 use Rattle.dqbf.specs.Reading.{Reader, isOpening, takesPrefix, takesClauses, Phase, opening, prefixLines, clauseLines}
 use Rattle.dqbf.proofs.Reading.Lines.{Sane}
 use Rattle.tables.specs.Tables.{Tables, tablesOf}
-use Rattle.tables.specs.Spread.{flat, endsFrom, over, spread, stateOf, kindRow, setRow}
+use Rattle.tables.specs.Spread.{flat, endsFrom, over, spread, stateOf, kindRow, setRow, blank}
 use Rattle.tables.specs.WellFormed.{long}
 use Rattle.tables.specs.declared.State.{State}
 use Rattle.tables.proofs.Laws.Cuts.{flat-length, ends-length}
-use Rattle.tables.proofs.Laws.Rows.{over-length, over-take}
+use Rattle.tables.proofs.Laws.Rows.{over-length, over-take, over-over}
 use Rattle.tables.proofs.Laws.Formed.{Long, long-is, long-to}
 use Rattle.dqdimacs.specs.Pending.{pending}
-use Rattle.dqdimacs.specs.Lines.{phaseNumber, progressOf, ReadSoFar}
+use Rattle.dqdimacs.specs.Lines.{phaseNumber, progressOf, ReadSoFar, Framed}
 use Rattle.dqdimacs.specs.declared.progress.Progress.{Progress}
 use Rattle.dqdimacs.proofs.Laws.Models.{pending-kinds, pending-sets, pending-clauses, pending-used, pending-universals}
 use Rattle.dqdimacs.proofs.Laws.Finishing.{final-kinds, final-universals}
@@ -166,6 +166,16 @@ module _ {t : Tables} {r : Reader} {p : Progress} {now : Tables} (h : ReadSoFar 
 
   pub lent-now : long now ≡ true
   lent-now = long-to now long-now
+
+  pub framed : Framed t now
+  unfolding spread
+  framed =
+      rw (h .tables) (λ i. record {
+        literals = over-over (pos 0) literalLimit (flat (clauses blank)) (flat (clauses (pending φ))) (t .literals) literals-fit i;
+        ends = over-over 0 clauseLimit (endsFrom 0 (clauses blank)) (endsFrom 0 (clauses (pending φ))) (t .ends) ends-fit i;
+        sets = over-over 0 variableLimit (setRow blank) (setRow (pending φ)) (t .sets) sets-fit i;
+        kinds = over-over 0 variableLimit (kindRow blank) (kindRow (pending φ)) (t .kinds) kinds-fit i;
+      })
 
   pub kinds-over : now .kinds ≡ over variableLimit 0 (pending φ .kinds) (t .kinds)
   unfolding spread kindRow pending

@@ -6,7 +6,7 @@
 -- Assumes nothing.
 use mathlib.Core.Path.{_≡_, refl, ap, sym, _∙_}
 use mathlib.Core.Logic.{_⊎_, inl, inr}
-use mathlib.Core.Bool.{Bool, true, false, _&&_, and-false, false≢true}
+use mathlib.Core.Bool.{Bool, true, false, _&&_, and-false}
 use mathlib.Core.List.{List, [], _∷_, map}
 use Prim.Native.Nat.{ℕ, zero, suc, _+_, _-_, _≤_, _<_}
 use native.Mathlib.Nat.{add-zero, zero-add, not-suc-le-zero, le-of-suc-le-suc}
@@ -82,7 +82,7 @@ module _ (f : ℕ → ℕ) where
 
 module _ (bound x kind s : ℕ) (sets kinds : List ℕ) where
   refused-row : declarable bound kinds x ≡ false → Declared bound x kind s sets kinds false sets kinds
-  refused-row e = record { told = sym e; sets-set = λ z. absurd (false≢true z); kinds-set = λ z. absurd (false≢true z) }
+  refused-row e = record { told = sym e; sets-are = refl; kinds-are = refl }
 
   pub declared-above : bound < x → Declared bound x kind s sets kinds false sets kinds
   unfolding declarable
@@ -94,7 +94,7 @@ module _ (bound x kind s : ℕ) (sets kinds : List ℕ) where
 
   pub declared-new : x ≤ bound → getD kinds (x - 1) 0 ≡ 0 → Declared bound x kind s sets kinds true (set sets (x - 1) s) (set kinds (x - 1) kind)
   unfolding declarable
-  declared-new h e = record { told = rw (le-leb x bound h, e); sets-set = λ z. refl; kinds-set = λ z. refl }
+  declared-new h e = record { told = rw (le-leb x bound h, e); sets-are = refl; kinds-are = refl }
 
 -- ---- kinds and sets of several variables
 

@@ -1,7 +1,6 @@
 use borrow.Author.Needs.{needs}
 use mathlib.Core.Path.{_≡_, refl, ap, sym, _∙_}
 use native.Mathlib.Omega.{arith}
-use borrow.Author.Tests.{not-false}
 use lib.ListN.{length, drop, getD}
 use lib.Seq.{length-take-le}
 use Rattle.dqbf.proofs.Laws.Parts.{tail-lent}
@@ -100,7 +99,7 @@ same-length-3 c = search needs
 returns-3 : tie.Need-returns-3
 returns-3 c =
     let xs = c .before .before .before .before .before .before .before .before .before .before .before .before .before .before .before .before .before .before .before .before .before .before .before .before .args .numbers .now in
-    λ t r l e h. d-refused h (c .before .before .before .before .before .before .before .before .before .before .before .before .before .before .before .before .before .before .before .if1 .left) (getD xs 0 0) (drop 1 xs) (rw (tail-lent xs 1) at (c .before .before .before .before .before .before .before .before .before .before .before .before .before .all-universal .ensures)) (c .before .before .before .before .before .before .before .before .before .before .before .before .if2 .left) (rw (tail-lent xs 1) at (c .before .before .before .before .before .before .before .before .before .union-of .ensures)) (omega arith) (c .before .before .before .before .before .declare .ensures .told) (c .if3 .taken)
+    λ t r l e h. d-refused h (c .before .before .before .before .before .before .before .before .before .before .before .before .before .before .before .before .before .before .before .if1 .left) (getD xs 0 0) (drop 1 xs) (rw (tail-lent xs 1) at (c .before .before .before .before .before .before .before .before .before .before .before .before .before .all-universal .ensures)) (c .before .before .before .before .before .before .before .before .before .before .before .before .if2 .left) (rw (tail-lent xs 1) at (c .before .before .before .before .before .before .before .before .before .union-of .ensures)) (omega arith) (c .before .before .before .before .before .declare .ensures .told) (c .if3 .taken) (c .before .before .before .before .before .declare .ensures .sets-are) (c .before .before .before .before .before .declare .ensures .kinds-are)
 
 -- src/declarations.rt:165:1
 same-length-4 : tie.Need-same-length-4
@@ -114,8 +113,7 @@ same-length-5 c = search needs
 returns-4 : tie.Need-returns-4
 returns-4 c =
     let xs = c .before .before .before .before .before .before .before .before .before .before .before .before .before .before .before .before .before .before .before .before .before .before .before .before .args .numbers .now in
-    let q = not-false _ (c .if3 .left) in
-    λ t r l e h. d-read h (c .before .before .before .before .before .before .before .before .before .before .before .before .before .before .before .before .before .before .before .if1 .left) (getD xs 0 0) (drop 1 xs) (rw (tail-lent xs 1) at (c .before .before .before .before .before .before .before .before .before .before .before .before .before .all-universal .ensures)) (c .before .before .before .before .before .before .before .before .before .before .before .before .if2 .left) (rw (tail-lent xs 1) at (c .before .before .before .before .before .before .before .before .before .union-of .ensures)) (omega arith) (c .before .before .before .before .before .declare .ensures .told) (c .if3 .left) (c .before .before .before .before .before .declare .ensures .sets-set q) (c .before .before .before .before .before .declare .ensures .kinds-set q)
+    λ t r l e h. d-read h (c .before .before .before .before .before .before .before .before .before .before .before .before .before .before .before .before .before .before .before .if1 .left) (getD xs 0 0) (drop 1 xs) (rw (tail-lent xs 1) at (c .before .before .before .before .before .before .before .before .before .before .before .before .before .all-universal .ensures)) (c .before .before .before .before .before .before .before .before .before .before .before .before .if2 .left) (rw (tail-lent xs 1) at (c .before .before .before .before .before .before .before .before .before .union-of .ensures)) (omega arith) (c .before .before .before .before .before .declare .ensures .told) (c .if3 .left) (c .before .before .before .before .before .declare .ensures .sets-are) (c .before .before .before .before .before .declare .ensures .kinds-are)
 
 pub dependent-line-spec : {M : Type 1} → statement M
 dependent-line-spec =
