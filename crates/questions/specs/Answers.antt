@@ -3,7 +3,6 @@
 --     lengthTold, variableTold          the paper's numbers and values for each case of an answer
 --     lengthAnswer, variableAnswer      the outcome of a question
 --     Shown                             the stretch that is shown: its place in the caller's literals and the clause in it
--- Assumes nothing.
 use mathlib.Core.Path.{_≡_}
 use mathlib.Core.Bool.{cond}
 use mathlib.Core.List.{List, []}

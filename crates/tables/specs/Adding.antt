@@ -5,7 +5,6 @@
 --     withFormula               a model with one more formula clause, for the reader
 --     full, RoomFor             whether so many more fit
 --     Added                     tables and state after an addition
--- Assumes nothing.
 use mathlib.Core.Path.{_≡_}
 use mathlib.Core.Bool.{Bool, cond, _&&_, _||_}
 use mathlib.Core.List.{List, [], _∷_, _++_}

@@ -3,3 +3,4 @@ pub mod Spread
 pub mod WellFormed
 pub mod Adding
 pub mod Unusable
+pub mod Statements

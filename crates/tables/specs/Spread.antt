@@ -4,9 +4,8 @@
 --     over                  a row at the front of a table
 --     spread, stateOf       tables and state of a model
 --     blank, zeroState      the model and the state of a refused formula's tables, which are all 0
--- Assumes nothing.
 use mathlib.Core.List.{List, [], _∷_, _++_}
-use Prim.Native.Nat.{ℕ, zero, suc, _+_, _-_}
+use Prim.Native.Nat.{ℕ, _+_, _-_}
 use lib.IntN.{ℤ, pos}
 use lib.ListN.{length, drop, replicate}
 use Rattle.dqbf.specs.Limits.{clauseLimit, literalLimit, variableLimit}

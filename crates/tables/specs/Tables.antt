@@ -3,7 +3,6 @@
 --     stretch, cut, entry            a part of a table; the clauses between their ends; an entry by its number
 --     kindsIn, setsIn, clausesIn     the entries in use
 --     modelIn                        the model
--- Assumes nothing.
 use mathlib.Core.List.{List, [], _∷_}
 use Prim.Native.Nat.{ℕ, zero, suc, _-_}
 use lib.IntN.{ℤ}

@@ -1,5 +1,4 @@
 -- The refusals that every call on tables gives first (document 01, "Numbers of refusal": "1 before all").
--- Assumes nothing.
 use mathlib.Core.Bool.{not}
 use mathlib.Core.List.{List, [], _∷_}
 use mathlib.Core.Option.{Option, none, some}

@@ -1,14 +1,12 @@
--- When tables are lent long enough and are well formed (document 01, "The tables are well formed when"): a named condition for each that the paper states, and no more.
--- The conditions on the entries in use are stated on lists, so that `wellFormed`, of tables, and `valid`, of a model, share them.
---     long                 no table is lent too short
---     countsFit            1, 2, 4: `withinLimits`, `boundInUse`, `clausesAddUp`
---     endsRise             5
---     clausesFit           6 to 9: `ascending`, `narrow`, `overKinds`
---     variablesFit         3, 10 to 14: `universalsIn` (dqbf), `universalBits`, `otherInside`, `isKind`, `undeclaredBare`, `forksAbove`
---     emptyTold, restZero  15, 16
---     wellFormed, valid
--- Assumes nothing.
-use mathlib.Core.Bool.{Bool, true, false, cond, not, _&&_}
+-- When tables are lent long enough and are well formed (document 01, "The tables are well formed when"): the sixteen conditions of the paragraph, each under a
+-- name of its own, and no more. Those on the entries in use are stated on lists, so that `wellFormed`, of tables, and `valid`, of a model, share them.
+--     long                                             no table is lent too short
+--     withinLimits, boundInUse, clausesAddUp           the counts: countsFit
+--     endsRise, clausesAscend, clausesNarrow, clausesInUse, formulaDeclared, emptyTold     the clauses: clausesFit, and the first and the last
+--     universalsCounted, universalsFill, othersInside, kindsKnown, undeclaredBare, forksAbove     the variables: variablesFit
+--     restZero                                         the entries that are not in use
+--     wellFormed, valid                                all of them, of tables with a state and of a model
+use mathlib.Core.Bool.{Bool, true, cond, not, _&&_}
 use mathlib.Core.List.{List, [], _∷_}
 use Prim.Native.Nat.{ℕ, zero, suc, _+_, _-_, _^_}
 use lib.Dec.{leb, ltb, eqb}
@@ -65,31 +63,41 @@ countsFit s = every (withinLimits s ∷ boundInUse s ∷ clausesAddUp s ∷ [])
 
 -- ---- the clauses
 
--- "the ends never fall and the last, 0 if there is none, is the literal count": from a place on
+-- "the ends never fall and the last, 0 if there is none, is the literal count": n, from the place where the first clause starts
 unfoldable pub endsRise : ℕ → List ℕ → ℕ → Bool
 endsRise from [] n = eqb from n
 endsRise from (end ∷ ends) n = leb from end && endsRise end ends n
 
--- "ascending": strictly, by variable, all above x
+-- strictly ascending by variable, all above x
 unfoldable pub ascending : ℕ → Clause → Bool
 ascending x [] = true
 ascending x (l ∷ C) = ltb x (natAbs l) && ascending (natAbs l) C
 
--- "of at most 32 literals"
 unfoldable pub narrow : Clause → Bool
 narrow C = leb (length C) widthLimit
 
--- over variables of the kinds 1 to k: "over declared or fork variables in use" where k is 3, over "declared ones only" where it is 2
+-- over variables in use of the kinds 1 to k
 unfoldable pub overKinds : ℕ → List ℕ → Clause → Bool
 overKinds k kinds C = allOf (λ l. ltb 0 (entry kinds (natAbs l)) && leb (entry kinds (natAbs l)) k) C
 
--- what these ask of one clause
-unfoldable pub clauseFits : ℕ → List ℕ → Clause → Bool
-clauseFits k kinds C = every (ascending 0 C ∷ narrow C ∷ overKinds k kinds C ∷ [])
+-- "each clause is ascending"
+abbrev pub clausesAscend : List Clause → Bool
+clausesAscend Cs = allOf (ascending 0) Cs
 
--- "each clause is ascending, of at most 32 literals, over declared or fork variables in use, a formula clause over declared ones only"
+-- "of at most 32 literals"
+abbrev pub clausesNarrow : List Clause → Bool
+clausesNarrow Cs = allOf narrow Cs
+
+-- "over declared or fork variables in use"
+abbrev pub clausesInUse : List ℕ → List Clause → Bool
+clausesInUse kinds Cs = allOf (overKinds 3 kinds) Cs
+
+-- "a formula clause over declared ones only"
+abbrev pub formulaDeclared : ℕ → List ℕ → List Clause → Bool
+formulaDeclared formula kinds Cs = allOf (overKinds 2 kinds) (take formula Cs)
+
 unfoldable pub clausesFit : ℕ → List ℕ → List Clause → Bool
-clausesFit formula kinds Cs = every (allOf (ascending 0) Cs ∷ allOf narrow Cs ∷ allOf (overKinds 3 kinds) Cs ∷ allOf (overKinds 2 kinds) (take formula Cs) ∷ [])
+clausesFit formula kinds Cs = every (clausesAscend Cs ∷ clausesNarrow Cs ∷ clausesInUse kinds Cs ∷ formulaDeclared formula kinds Cs ∷ [])
 
 -- "the lowest empty clause is as the state says"
 unfoldable pub emptyTold : State → List Clause → Bool
@@ -105,24 +113,41 @@ lowest n = 2 ^ n - 1
 unfoldable pub newBit : Set → Set → Bool
 newBit seen s = eqb (size s) 1 && eqb (common seen s) emptySet
 
--- "the universals' sets are single different bits that fill the lowest places", together with those seen before
+-- the universals' sets are single different bits that fill the places, together with those seen before
 unfoldable pub universalBits : Set → Set → List ℕ → List Set → Bool
 universalBits seen places [] sets = eqb seen places
 universalBits seen places (k ∷ kinds) [] = eqb seen places
 universalBits seen places (k ∷ kinds) (s ∷ sets) =
     cond (eqb k 1) (newBit seen s && universalBits (union seen s) places kinds sets) (universalBits seen places kinds sets)
 
--- "every other declared or fork set lies inside these"
 unfoldable pub otherInside : Set → ℕ → Set → Bool
 otherInside places k s = cond (leb 2 k) (inside s places) true
 
--- "kinds are 0 to 3"
 unfoldable pub isKind : ℕ → Bool
 isKind k = leb k 3
 
+unfoldable pub bareIfUndeclared : ℕ → Set → Bool
+bareIfUndeclared k s = cond (eqb k 0) (eqb s emptySet) true
+
+-- "the universals are the entries of kind 1"
+abbrev pub universalsCounted : ℕ → List ℕ → Bool
+universalsCounted n kinds = eqb (universalsIn kinds) n
+
+-- "the universals' sets are single different bits that fill the lowest places"
+abbrev pub universalsFill : ℕ → List ℕ → List Set → Bool
+universalsFill n kinds sets = universalBits emptySet (lowest n) kinds sets
+
+-- "every other declared or fork set lies inside these"
+abbrev pub othersInside : ℕ → List ℕ → List Set → Bool
+othersInside n kinds sets = allVariables (otherInside (lowest n)) kinds sets
+
+-- "kinds are 0 to 3"
+abbrev pub kindsKnown : List ℕ → Bool
+kindsKnown kinds = allOf isKind kinds
+
 -- "undeclared variables have set 0"
-unfoldable pub undeclaredBare : ℕ → Set → Bool
-undeclaredBare k s = cond (eqb k 0) (eqb s emptySet) true
+abbrev pub undeclaredBare : List ℕ → List Set → Bool
+undeclaredBare kinds sets = allVariables bareIfUndeclared kinds sets
 
 -- "kind 3 stands on all numbers above V in use and nowhere else": the bound is what is left of V
 unfoldable pub forksAbove : ℕ → List ℕ → Bool
@@ -130,20 +155,12 @@ forksAbove bound [] = true
 forksAbove zero (k ∷ kinds) = eqb k 3 && forksAbove zero kinds
 forksAbove (suc bound) (k ∷ kinds) = not (eqb k 3) && forksAbove bound kinds
 
--- what these ask of one variable, which is declared if its number is at most V
-unfoldable pub kindStands : Bool → ℕ → Bool
-kindStands declared k = cond declared (not (eqb k 3)) (eqb k 3)
-
-unfoldable pub variableFits : Bool → Set → ℕ → Set → Bool
-variableFits declared places k s = every (otherInside places k s ∷ isKind k ∷ undeclaredBare k s ∷ kindStands declared k ∷ [])
-
--- with "the universals are the entries of kind 1"
 unfoldable pub variablesFit : ℕ → ℕ → List ℕ → List Set → Bool
 variablesFit bound universals kinds sets =
-    every (eqb (universalsIn kinds) universals ∷ universalBits emptySet (lowest universals) kinds sets ∷ allVariables (otherInside (lowest universals)) kinds sets
-    ∷ allOf isKind kinds ∷ allVariables undeclaredBare kinds sets ∷ forksAbove bound kinds ∷ [])
+    every (universalsCounted universals kinds ∷ universalsFill universals kinds sets ∷ othersInside universals kinds sets
+    ∷ kindsKnown kinds ∷ undeclaredBare kinds sets ∷ forksAbove bound kinds ∷ [])
 
--- ---- "all entries between the counts and the table's size above are 0"
+-- ---- the entries that are not in use
 
 unfoldable pub isZero : ℕ → Bool
 isZero n = eqb n 0
@@ -151,6 +168,7 @@ isZero n = eqb n 0
 unfoldable pub isZeroLiteral : ℤ → Bool
 isZeroLiteral l = same l (pos 0)
 
+-- "all entries between the counts and the table's size above are 0"
 unfoldable pub restZero : Tables → State → Bool
 restZero t s =
     every (allOf isZeroLiteral (stretch (s .literals) literalLimit (t .literals)) ∷ allOf isZero (stretch (s .clauses .0) clauseLimit (t .ends))
@@ -169,3 +187,15 @@ unfoldable pub valid : Model → Bool
 valid m =
     every (eqb (length (m .sets)) (length (m .kinds)) ∷ countsFit (stateOf m) ∷ clausesFit (length (m .formula)) (kindRow m) (clauses m)
     ∷ variablesFit (length (m .kinds)) (universalCount m) (kindRow m) (setRow m) ∷ [])
+
+-- ---- what the conditions ask of one clause, and of one variable: the test goes through them once
+
+unfoldable pub clauseFits : ℕ → List ℕ → Clause → Bool
+clauseFits k kinds C = every (ascending 0 C ∷ narrow C ∷ overKinds k kinds C ∷ [])
+
+-- a variable is declared if its number is at most V
+unfoldable pub kindStands : Bool → ℕ → Bool
+kindStands declared k = cond declared (not (eqb k 3)) (eqb k 3)
+
+unfoldable pub variableFits : Bool → Set → ℕ → Set → Bool
+variableFits declared places k s = every (otherInside places k s ∷ isKind k ∷ bareIfUndeclared k s ∷ kindStands declared k ∷ [])

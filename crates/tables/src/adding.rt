@@ -9,6 +9,10 @@ use super::ClauseNumber;
 use super::State;
 use super::StepNumber;
 use super::VariableNumber;
+use super::kind;
+use super::limits::CLAUSE_LIMIT;
+use super::limits::LITERAL_LIMIT;
+use super::limits::VARIABLE_LIMIT;
 
 // The lowest empty clause, after a clause with a number and a width was added.
 pub fn lowest_after(lowest: u32, number: u32, width: usize) -> u32
@@ -65,7 +69,7 @@ pub fn add_variable(sets: &mut [u64], kinds: &mut [u8], state: State, set: u64) 
     let empty = state.empty;
     let place = variables.0 as usize;
     sets[place] = set;
-    kinds[place] = 3;
+    kinds[place] = kind::FORK;
     State {
         bound,
         variables: VariableNumber(variables.0 + 1),
@@ -130,13 +134,13 @@ pub fn is_full(state: State, clauses: u32, literals: u32, variables: u32) -> boo
 {
     let used_clauses = state.clauses;
     let used_variables = state.variables;
-    if used_clauses.0 as u64 + clauses as u64 > 2048 {
+    if used_clauses.0 as u64 + clauses as u64 > CLAUSE_LIMIT as u64 {
         return true;
     }
-    if state.literals as u64 + literals as u64 > 8192 {
+    if state.literals as u64 + literals as u64 > LITERAL_LIMIT as u64 {
         return true;
     }
-    used_variables.0 as u64 + variables as u64 > 512
+    used_variables.0 as u64 + variables as u64 > VARIABLE_LIMIT as u64
 }
 
 // An accepted step that adds one clause.

@@ -14,6 +14,7 @@ use super::State;
 use super::VariableNumber;
 use super::adding;
 use super::entries;
+use super::kind;
 use super::limits::CLAUSE_LIMIT;
 use super::limits::LITERAL_LIMIT;
 use super::limits::UNIVERSAL_LIMIT;
@@ -80,8 +81,8 @@ fn lowest_places(count: u16) -> u64
     requires { ⌜ count ≤ universalLimit ⌝ }
     ensures { λ r. ⌜ r ≡ lowest count ⌝ }
 {
-    if count >= 64 {
-        return 18446744073709551615;
+    if count >= UNIVERSAL_LIMIT {
+        return 0xFFFF_FFFF_FFFF_FFFF;
     }
     (1u64 << (count as u32)) - 1
 }
@@ -101,25 +102,25 @@ fn kind_stands(kind: u8, declared: bool) -> bool
     ensures { λ r. ⌜ r ≡ kindStands declared kind ⌝ }
 {
     if declared {
-        return kind != 3;
+        return kind != kind::FORK;
     }
-    kind == 3
+    kind == kind::FORK
 }
 
 // What is asked of one variable's kind and set, but for the universals' bits.
 fn variable_fits(kind: u8, set: u64, declared: bool, places: u64) -> bool
     ensures { λ r. ⌜ r ≡ variableFits declared places kind set ⌝ }
 {
-    if kind > 3 {
+    if kind > kind::FORK {
         return false;
     }
     if !kind_stands(kind, declared) {
         return false;
     }
-    if kind == 0 {
+    if kind == kind::UNDECLARED {
         return set == 0;
     }
-    if kind < 2 {
+    if kind < kind::EXISTENTIAL {
         return true;
     }
     set & places == set
@@ -141,7 +142,7 @@ fn variables_fit(kinds: &[u8], sets: &[u64], bound: usize, universals: u16) -> b
             return false;
         }
         i += 1;
-        if kind == 1 {
+        if kind == kind::UNIVERSAL {
             if !is_new_bit(seen, set) {
                 return false;
             }
@@ -170,7 +171,7 @@ fn clause_fits(clause: &[i16], kinds: &[u8], highest: u8) -> bool
             return false;
         }
         let kind = entries::kind_of(kinds, VariableNumber(variable as u32));
-        if kind == 0 {
+        if kind == kind::UNDECLARED {
             return false;
         }
         if kind > highest {
@@ -187,9 +188,9 @@ fn highest_kind(place: usize, formula: usize) -> u8
     ensures { λ r. ⌜ r ≡ cond (ltb place formula) 2 3 ⌝ }
 {
     if place < formula {
-        return 2;
+        return kind::EXISTENTIAL;
     }
-    3
+    kind::FORK
 }
 
 // The clauses between the ends in use, and the lowest empty one.

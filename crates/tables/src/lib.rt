@@ -27,6 +27,7 @@ pub struct State {
 pub mod adding;
 pub mod entries;
 pub mod formed;
+pub mod kind;
 pub mod limits;
 pub mod refusal;
 pub mod zero;

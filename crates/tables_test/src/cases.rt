@@ -83,6 +83,10 @@ pub fn counts() {
         b"4294967295 steps and 1 formula clause",
         build::counts(0, 0, 0, 1, 0, 0, 4294967295, 0),
     );
+}
+
+// The counts of the sample.
+pub fn sums() {
     build::with_state(
         b"one universal too many stated",
         build::counts(5, 6, 3, 2, 6, 8, 3, 5),

@@ -9,6 +9,7 @@ mod questioned;
 fn main() {
     cases::lengths();
     cases::counts();
+    cases::sums();
     cases::clauses();
     cases::variables();
     cases::rest();

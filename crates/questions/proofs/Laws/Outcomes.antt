@@ -3,12 +3,12 @@
 --     length-unknown, shown-unknown, variable-zero, variable-past      number 21, and 22
 --     range-asks, range-ordered, range-inside, range-short     of a clause that is there
 --     length-told, shown-told, variable-told               an answer
--- Assumes nothing.
-use mathlib.Core.Path.{_≡_, refl, ap, sym, _∙_}
-use mathlib.Core.Bool.{Bool, true, false, cond, _||_}
+--     variable-members                                     how many universals the set holds
+use mathlib.Core.Path.{_≡_, ap, sym, _∙_}
+use mathlib.Core.Bool.{true, false, cond, _||_}
 use mathlib.Core.List.{List, []}
 use mathlib.Core.Option.{none, some}
-use Prim.Native.Nat.{ℕ, zero, suc, _+_, _-_, _*_, _≤_, _<_}
+use Prim.Native.Nat.{ℕ, _+_, _-_, _*_, _≤_, _<_}
 use native.Mathlib.Nat.{zero-add}
 use native.Mathlib.Omega.{arith}
 use borrow.Author.Tests.{eq-eqb, ne-eqb, lt-ltb, le-ltb}
@@ -16,25 +16,25 @@ use denote.Ref.{RefT, ptr, now}
 use lib.Dec.{eqb, ltb}
 use lib.IntN.{ℤ}
 use lib.ListN.{length}
-use Rattle.dqbf.specs.Limits.{widthLimit}
-use Rattle.dqbf.specs.Literal.{Clause}
+use Rattle.dqbf.specs.Limits.{widthLimit, tables}
 use Rattle.dqbf.specs.Refusal.{Refusal, refusal}
 use Rattle.dqbf.specs.Set.{size}
 use Rattle.dqbf.specs.Model.{Model, used, kindOf, setOf}
-use Rattle.dqbf.specs.Rules.{clauseAt, unknown}
-use Rattle.dqbf.specs.Questions.{noClause, clauseLength, askClause, noVariable, variable, askVariable, show}
+use Rattle.dqbf.specs.Rules.{unknown}
+use Rattle.dqbf.specs.Questions.{noClause, clauseLength, askClause, noVariable, variable, askVariable, show, members}
 use Rattle.dqbf.proofs.Laws.Tests.{or-left, or-right, no-or}
+use Rattle.dqbf.proofs.SetSize.{set-size}
 use Rattle.tables.specs.declared.State.{State}
 use Rattle.tables.specs.Tables.{Tables, stretch, entry, modelIn}
 use Rattle.tables.specs.WellFormed.{long, wellFormed}
 use Rattle.tables.specs.Unusable.{unusable, unlessRefused, unusableNumber}
 use Rattle.tables.proofs.Laws.Formed.{long-is, formed-is}
 use Rattle.tables.proofs.Laws.Unusable.{usable, first-is, none-lent, none-formed}
+use Rattle.tables.proofs.Laws.Spread.{valid-held}
 use Rattle.tables.proofs.Laws.Adding.{variable-count}
 use Rattle.tables.proofs.Laws.Entries.{unknown-told, clause-at, range-rises, range-ends, range-length, range-narrow, kind-told, set-told}
-use Rattle.questions.specs.declared.LengthAnswer.the-variants.{Length, Refused}
 use Rattle.questions.specs.declared.VariableAnswer.the-variants as Variable
-use Rattle.questions.specs.Answers.{lengthTold, lengthAnswer, variableTold, variableAnswer, shownClause, shownStart, literalSize, Shown}
+use Rattle.questions.specs.Answers.{lengthAnswer, variableAnswer, shownClause, shownStart, literalSize, Shown}
 
 -- an answer where a refusal comes first, and where none does
 unless-refused : {A : Type 0} {r : Refusal} (t : Tables) (s : State) (f : Refusal → A) (a : A) → unusable t s ≡ some r → f r ≡ unlessRefused (unusable t s) f a
@@ -175,4 +175,15 @@ module _ (t : Tables) (s : State) (c : ℕ) {n : ℕ} (told : n ≡ unusableNumb
           b,
           ← kind-told t s lent formed c known,
           ← set-told t s lent formed c known,
+        )
+
+    -- the number told is that of the universals in the variable's set
+    pub variable-members : (c ≡ 0 → ⊥) → c ≤ s .variables .0 → variableAnswer t s c ≡ variable (kindOf m c) (members m (setOf m c))
+    unfolding askVariable
+    variable-members nonzero known =
+        rw (
+          ← asked-variable,
+          variable-test,
+          no-or (eqb c 0) (ltb (s .variables .0) c) (ne-eqb c 0 nonzero) (le-ltb (s .variables .0) c known),
+          set-size tables m (valid-held t s lent formed) c,
         )

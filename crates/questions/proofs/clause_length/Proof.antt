@@ -1,4 +1,4 @@
--- `questions::clause_length` meets its contract. Assumes nothing.
+-- `questions::clause_length` meets its contract.
 use native.Mathlib.Omega.{arith}
 use borrow.Author.Needs.{needs}
 use Rattle.tables.specs.Tables.{Tables, tablesOf}

@@ -1,4 +1,4 @@
--- `questions::variable` meets its contract. Assumes nothing.
+-- `questions::variable` meets its contract.
 use native.Mathlib.Omega.{arith}
 use borrow.Author.Needs.{needs}
 use lib.Count.{ones-le}

@@ -4,17 +4,16 @@
 --     one-clause, two-clauses       of well-formed tables, after a step's entries were stored
 --     formula-clause                the same for the reader, as long as there is no step
 --     room-is, room-told, room-one, room-two, step-room        what the leaves require
--- Assumes nothing.
 use mathlib.Core.Path.{_≡_, refl, ap, sym, _∙_}
-use mathlib.Core.Bool.{Bool, true, false, cond, _&&_, _||_}
+use mathlib.Core.Bool.{true, false, _||_}
 use mathlib.Core.List.{List, [], _∷_, _++_, append-assoc, append-nil}
-use Prim.Native.Nat.{ℕ, zero, suc, _+_, _-_, _≤_, _<_}
+use Prim.Native.Nat.{ℕ, suc, _+_, _-_, _≤_, _<_}
 use native.Mathlib.Nat.{zero-add, add-zero}
 use native.Mathlib.Omega.{arith}
 use borrow.Author.Tests.{ltb-false}
-use lib.Dec.{eqb, ltb, eqb·suc-zero}
+use lib.Dec.{ltb, eqb·suc-zero}
 use lib.IntN.{ℤ, pos}
-use lib.ListN.{length, take, drop, set, replicate, length-append, length-replicate, length-set, replicate-append-replicate}
+use lib.ListN.{length, set, replicate, length-append, length-replicate, length-set, replicate-append-replicate}
 use Rattle.dqbf.specs.Limits.{clauseLimit, literalLimit, variableLimit, tables}
 use Rattle.dqbf.specs.Literal.{Clause, total}
 use Rattle.dqbf.specs.Set.{Set}
@@ -23,10 +22,10 @@ use Rattle.dqbf.specs.Valid.{Valid}
 use Rattle.dqbf.specs.Rules.{Addition, add, noRoom}
 use Rattle.dqbf.specs.Published.{Fits}
 use Rattle.dqbf.proofs.Laws.Tests.{or-no}
-use Rattle.dqbf.proofs.Laws.Models.{more-clauses, total-append, used-more}
+use Rattle.dqbf.proofs.Laws.Models.{more-clauses, total-append}
 use Rattle.tables.specs.declared.State.{State}
 use Rattle.tables.specs.Tables.{Tables, tablesOf, modelIn}
-use Rattle.tables.specs.Spread.{flat, endsFrom, over, spread, stateOf, kindRow, setRow, blank}
+use Rattle.tables.specs.Spread.{flat, endsFrom, over, spread, stateOf, kindRow, setRow}
 use Rattle.tables.specs.WellFormed.{long, wellFormed}
 use Rattle.tables.specs.Adding.{stored, lowestAfter, clauseEnded, variableAdded, stepCounted, formulaCounted, withFormula, full, RoomFor, Added}
 use Rattle.tables.proofs.Laws.Cuts.{flat-length, flat-append, ends-length, ends-append}

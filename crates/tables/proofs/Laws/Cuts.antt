@@ -3,21 +3,20 @@
 --     cut-length, cut-at, cut-flat       the clauses between their ends
 --     flat-cut, flat-append, flat-length, ends-cut, ends-append, ends-length, ends-rise   and back
 --     rise-le, rise-first, rise-at, entry-at       ends that never fall
--- Assumes nothing.
-use mathlib.Core.Path.{_≡_, refl, ap, sym, _∙_}
-use mathlib.Core.Bool.{Bool, true, false, _&&_}
+use mathlib.Core.Path.{_≡_, refl, ap, _∙_}
+use mathlib.Core.Bool.{true}
 use mathlib.Core.List.{List, [], _∷_, _++_, append-assoc}
-use Prim.Native.Nat.{ℕ, zero, suc, _+_, _-_, _≤_, _<_}
-use native.Mathlib.Nat.{add-zero, sub-self, add-assoc, not-suc-le-zero, le-of-suc-le-suc}
+use Prim.Native.Nat.{ℕ, suc, _+_, _-_, _≤_}
+use native.Mathlib.Nat.{add-zero, sub-self, add-assoc}
 use native.Mathlib.Omega.{arith}
 use borrow.Author.Tests.{leb-true, eqb-true, le-leb, eq-eqb}
 use lib.Dec.{leb}
 use lib.IntN.{ℤ}
-use lib.ListN.{length, getD, take, drop, length-append, length-drop}
+use lib.ListN.{length, drop, length-append, length-drop}
 use lib.Seq.{take-add, drop-drop, take-at, drop-at, length-take-le}
 use Rattle.dqbf.specs.Literal.{Clause, total}
 use Rattle.dqbf.proofs.Laws.Tests.{and-left, and-right, both}
-use Rattle.tables.specs.Tables.{stretch, cut, entry}
+use Rattle.tables.specs.Tables.{stretch, cut}
 use Rattle.tables.specs.Spread.{flat, endsFrom}
 use Rattle.tables.specs.WellFormed.{endsRise}
 

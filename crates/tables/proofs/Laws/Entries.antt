@@ -2,31 +2,29 @@
 --     entry-none, entry-some, entry-past      an entry by its number
 --     unknown-told, clause-at, clause-there, range-rises, range-ends, range-length, range-narrow     a clause of the model, and its range in the literals
 --     kind-told, set-told, literal-in-use     kind and set of a variable in use
--- Assumes nothing.
 use mathlib.Core.Path.{_≡_, refl, ap, sym, _∙_}
-use mathlib.Core.Bool.{Bool, true, false, _&&_, _||_}
+use mathlib.Core.Bool.{true, _||_}
 use mathlib.Core.List.{List, [], _∷_}
-use Prim.Native.Nat.{ℕ, zero, suc, _+_, _-_, _≤_, _<_}
+use Prim.Native.Nat.{ℕ, zero, suc, _-_, _≤_, _<_}
 use native.Mathlib.Nat.{not-suc-le-zero, le-of-suc-le-suc}
 use native.Mathlib.Numerals.{sub-one}
 use native.Mathlib.Omega.{arith}
-use borrow.Author.Tests.{leb-true, eqb-true}
+use borrow.Author.Tests.{leb-true}
 use lib.Dec.{leb, ltb, eqb}
 use lib.IntN.{ℤ, natAbs}
 use lib.ListN.{length, getD, take, List·getD-eq-default}
 use lib.Seq.{getD-take}
-use Rattle.dqbf.specs.Limits.{widthLimit, tables}
+use Rattle.dqbf.specs.Limits.{widthLimit}
 use Rattle.dqbf.specs.Literal.{Clause, _∈_}
-use Rattle.dqbf.specs.Set.{Set}
 use Rattle.dqbf.specs.Model.{Model, clauses, kindOf, setOf}
 use Rattle.dqbf.specs.Rules.{clauseAt, unknown}
 use Rattle.dqbf.proofs.Laws.Tests.{and-left, and-right}
 use Rattle.dqbf.proofs.Laws.Lists.{nth}
 use Rattle.dqbf.proofs.Laws.Models.{in-use}
 use Rattle.tables.specs.declared.State.{State}
-use Rattle.tables.specs.Tables.{Tables, stretch, cut, entry, kindsIn, setsIn, endsIn, clausesIn, modelIn}
+use Rattle.tables.specs.Tables.{Tables, stretch, cut, entry, endsIn, modelIn}
 use Rattle.tables.specs.WellFormed.{endsRise, long, wellFormed}
-use Rattle.tables.proofs.Laws.Cuts.{stretch-length, cut-length, rise-le}
+use Rattle.tables.proofs.Laws.Cuts.{stretch-length, rise-le}
 use Rattle.tables.proofs.Laws.Formed.{long-is, formed-is, ends-in}
 use Rattle.tables.proofs.Laws.Held.{clauses-is, kinds-is, sets-is}
 use Rattle.tables.proofs.Laws.Valid.{kind-entry, set-entry}

@@ -4,11 +4,10 @@
 --     ends-in, kinds-in, sets-in       how many entries are in use
 --     Formed, formed-is, formed-to     well-formed tables
 --     ill-.., rest-decides             the same as the test goes
--- Assumes nothing.
-use mathlib.Core.Path.{_≡_, refl, ap, sym, _∙_}
+use mathlib.Core.Path.{_≡_, sym, _∙_}
 use mathlib.Core.Bool.{Bool, true, false, not, true≢false}
 use mathlib.Core.List.{[], _∷_}
-use Prim.Native.Nat.{ℕ, zero, suc, _+_, _-_, _≤_, _<_}
+use Prim.Native.Nat.{_+_, _-_, _≤_}
 use native.Mathlib.Omega.{arith}
 use borrow.Author.Tests.{leb-true, eqb-true, le-leb, eq-eqb, not-false}
 use lib.Dec.{eqb}

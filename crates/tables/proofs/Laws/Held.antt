@@ -4,25 +4,24 @@
 --     kinds-is, sets-is, clauses-is     the model's rows are the entries in use
 --     even-is       it has a set for each kind
 --     count-kinds, count-formula, count-universals     its counts
--- Assumes nothing.
 use mathlib.Core.Path.{_≡_, refl, ap, sym, _∙_}
-use mathlib.Core.Bool.{Bool, true, false, not, _&&_}
+use mathlib.Core.Bool.{true, not}
 use mathlib.Core.List.{List, [], _∷_, _++_}
-use Prim.Native.Nat.{ℕ, zero, suc, _+_, _-_, _≤_, _<_}
+use Prim.Native.Nat.{ℕ, zero, suc, _+_, _-_}
 use native.Mathlib.Nat.{sub-zero, zero-sub, zero-add, suc-sub-suc}
 use native.Mathlib.Omega.{arith}
 use borrow.Author.Tests.{eqb-true}
 use lib.Dec.{eqb}
 use lib.IntN.{ℤ, pos, negsuc}
-use lib.ListN.{length, take, drop, replicate, length-append, length-drop, length-take, take-append-drop}
+use lib.ListN.{length, take, drop, replicate, length-drop, take-append-drop}
 use lib.Seq.{length-take-le}
 use Rattle.dqbf.specs.Limits.{clauseLimit, literalLimit, variableLimit}
 use Rattle.dqbf.specs.Literal.{total, same}
-use Rattle.dqbf.specs.Model.{Model, clauses, used, steps, universalsIn, universalCount, lowestEmpty}
+use Rattle.dqbf.specs.Model.{clauses, used, steps, universalsIn, universalCount, lowestEmpty}
 use Rattle.dqbf.proofs.Laws.Tests.{and-left, and-right}
 use Rattle.tables.specs.declared.State.{State}
-use Rattle.tables.specs.Tables.{Tables, stretch, cut, kindsIn, setsIn, endsIn, clausesIn, modelIn}
-use Rattle.tables.specs.Spread.{flat, endsFrom, over, spread, stateOf, kindRow, setRow}
+use Rattle.tables.specs.Tables.{Tables, kindsIn, setsIn, endsIn, clausesIn, modelIn}
+use Rattle.tables.specs.Spread.{flat, endsFrom, spread, stateOf, kindRow, setRow}
 use Rattle.tables.specs.WellFormed.{isZero, isZeroLiteral, forksAbove, variablesFit}
 use Rattle.tables.proofs.Laws.Tests.{every-at}
 use Rattle.tables.proofs.Laws.Cuts.{flat-cut, flat-length, ends-cut, cut-length}

@@ -2,13 +2,12 @@
 --     over-self, over-take, over-drop, over-rest     what stands where
 --     over-length, over-size                         how long it is
 --     over-over                                      the last row counts
---     over-stored, over-set                          entries stored behind a row, or in it
+--     over-stored, over-set, over-zeros              entries stored behind a row, or in it; a row of zeros
 --     stored-none, stored-one, stored-stored, stored-tail      entries stored into a table
--- Assumes nothing.
-use mathlib.Core.Path.{_≡_, refl, ap, sym, _∙_}
+use mathlib.Core.Path.{_≡_, refl, ap, _∙_}
 use mathlib.Core.Bool.{Bool, true}
 use mathlib.Core.List.{List, [], _∷_, _++_, append-assoc, append-nil}
-use Prim.Native.Nat.{ℕ, zero, suc, _+_, _-_, _≤_, _<_}
+use Prim.Native.Nat.{ℕ, _+_, _-_, _≤_, _<_}
 use native.Mathlib.Numerals.{add-one}
 use native.Mathlib.Omega.{arith}
 use borrow.Rule.Slice.PartMut.{putMid}
@@ -76,6 +75,13 @@ module _ {A : Type 0} (z : A) (size : ℕ) where
   over-rest row t =
       rw (drop-at row (replicate (size - length row) z ++ drop size t) (length row) refl)
       (take-at (replicate (size - length row) z) (drop size t) (size - length row) (length-replicate (size - length row) z))
+
+  -- a row of zeros is no row
+  pub over-zeros : (n : ℕ) (t : List A) → n ≤ size → over size z (replicate n z) t ≡ over size z [] t
+  unfolding over
+  over-zeros n t h =
+      let all : n + (size - n) ≡ size - 0 = omega arith in
+      rw (length-replicate n z, ← append-assoc (replicate n z) (replicate (size - n) z) (drop size t), replicate-append-replicate n (size - n) z, all)
 
   -- entries stored behind the row
   pub over-stored : (row xs t : List A) → length row + length xs ≤ size → stored (over size z row t) (length row) xs ≡ over size z (row ++ xs) t

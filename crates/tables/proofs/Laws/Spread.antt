@@ -3,29 +3,29 @@
 --     spread-again, long-spread, frame    for a list of calls: another model, the lengths, the entries past the stated sizes
 --     blank-valid, blank-state            the model of zero tables
 --     model-held, state-held, valid-held  of well-formed tables: they are their model's, the state is its state, it is valid
--- Assumes nothing.
-use mathlib.Core.Path.{_≡_, refl, ap, sym, _∙_}
-use mathlib.Core.Bool.{Bool, true, false}
-use mathlib.Core.List.{List, [], _∷_, _++_}
-use Prim.Native.Nat.{ℕ, zero, suc, _+_, _-_, _≤_, _<_}
+use mathlib.Core.Path.{_≡_, refl, ap, _∙_}
+use mathlib.Core.Bool.{Bool, true}
+use mathlib.Core.List.{List, [], _++_}
+use Prim.Native.Nat.{ℕ, _+_, _-_, _≤_}
 use native.Mathlib.Nat.{zero-add}
 use native.Mathlib.Omega.{arith}
 use borrow.Author.Tests.{eq-eqb}
-use lib.IntN.{ℤ, pos}
+use lib.IntN.{pos}
 use lib.ListN.{length, take, drop, replicate}
 use lib.Seq.{take-at, drop-at, take-append-seam, drop-append-seam}
 use Rattle.dqbf.specs.Limits.{clauseLimit, literalLimit, variableLimit, tables}
-use Rattle.dqbf.specs.Literal.{Clause, total, same}
+use Rattle.dqbf.specs.Literal.{total, same}
 use Rattle.dqbf.specs.Model.{Model, clauses, used, steps, universalsIn, universalCount, emptyFrom, lowestEmpty}
 use Rattle.dqbf.specs.Valid.{Valid}
 use Rattle.tables.specs.declared.State.{State}
 use Rattle.tables.specs.Tables.{Tables, stretch, cut, kindsIn, setsIn, endsIn, clausesIn, modelIn}
 use Rattle.tables.specs.Spread.{flat, endsFrom, over, spread, stateOf, kindRow, setRow, blank, zeroState}
-use Rattle.tables.specs.WellFormed.{every, allOf, allVariables, isZero, isZeroLiteral, endsRise, long, withinLimits, boundInUse, clausesAddUp, countsFit, clausesFit, lowest, universalBits, forksAbove, variablesFit, wellFormed, valid}
+use Rattle.tables.specs.WellFormed.{every, allOf, allVariables, isZero, isZeroLiteral, long, withinLimits, boundInUse, clausesAddUp, countsFit, clausesFit, lowest, universalBits, forksAbove, variablesFit, wellFormed, valid}
+use Rattle.tables.specs.Statements.{Framed}
 use Rattle.tables.proofs.Laws.Tests.{every-at, every-from, all-replicate}
 use Rattle.tables.proofs.Laws.Cuts.{flat-length, ends-length, ends-rise, cut-flat}
 use Rattle.tables.proofs.Laws.Rows.{over-length, over-take, over-drop, over-over, over-rest}
-use Rattle.tables.proofs.Laws.Formed.{Long, long-is, long-to, Counts, counts-is, counts-to, Formed, formed-is, formed-to}
+use Rattle.tables.proofs.Laws.Formed.{Long, long-is, long-to, counts-is, counts-to, Formed, formed-is, formed-to}
 use Rattle.tables.proofs.Laws.Held.{clauses-is, sets-is, kinds-is, even-is, held, state-is, count-kinds, count-formula, count-universals}
 use Rattle.tables.proofs.Laws.Valid.{kinds-used, sets-used, valid-is, valid-from}
 
@@ -62,13 +62,6 @@ module _ (t : Tables) (s : State) (lent : long t ≡ true) (formed : wellFormed 
   valid-held = valid-is (modelIn t s) valid-test
 
 -- ---- a valid model over tables
-
--- entries past the stated sizes are never changed
-pub record Framed (t t′ : Tables) : Type 0 where
-  pub literals : drop literalLimit (t′ .literals) ≡ drop literalLimit (t .literals)
-  pub ends : drop clauseLimit (t′ .ends) ≡ drop clauseLimit (t .ends)
-  pub sets : drop variableLimit (t′ .sets) ≡ drop variableLimit (t .sets)
-  pub kinds : drop variableLimit (t′ .kinds) ≡ drop variableLimit (t .kinds)
 
 zero-row : {A : Type 0} (z : A) (P : A → Bool) → P z ≡ true → (size : ℕ) (row t : List A) (n : ℕ) → length row ≡ n → allOf P (stretch n size (over size z row t)) ≡ true
 zero-row z P e size row t n h = rw (← h, over-rest z size row t) (all-replicate P z e (size - length row))

@@ -3,28 +3,27 @@
 --     clausesLeft, clauses-..        of the clauses between their ends
 --     variablesLeft, variables-..    of the kinds and sets
 --     one-shifted                    the lowest places as a word
--- Assumes nothing.
 use mathlib.Core.Path.{_≡_, refl, ap, sym, _∙_}
-use mathlib.Core.Bool.{Bool, true, false, cond, not, _&&_, and-true, and-false, true≢false}
+use mathlib.Core.Bool.{Bool, true, false, cond, _&&_, and-true, and-false, true≢false}
 use mathlib.Core.List.{List, [], _∷_}
 use Prim.Native.Nat.{ℕ, zero, suc, _+_, _-_, _*_, _%_, _^_, _≤_, _<_}
 use native.Mathlib.Nat.{one-mul, add-zero, zero-add, sub-zero, zero-sub}
 use native.Mathlib.Numerals.{add-one, sub-one}
 use native.Mathlib.Omega.{arith}
-use borrow.Author.Tests.{leb-true, eqb-true, ltb-true, ltb-false, le-leb, lt-leb, lt-ltb, le-ltb, eq-eqb, ne-eqb}
+use borrow.Author.Tests.{ltb-true, ltb-false, le-leb, lt-leb, lt-ltb, le-ltb, eq-eqb, ne-eqb}
 use lib.Dec.{leb, ltb, eqb, lit<, eqb·suc-zero}
 use lib.IntN.{ℤ, pos, natAbs}
-use lib.ListN.{length, getD, take, drop, drop-of-length-le}
+use lib.ListN.{length, getD, drop, drop-of-length-le}
 use lib.Pow.{shl-exact}
 use lib.Seq.{drop-cons, take-nil}
 use Rattle.dqbf.specs.Limits.{widthLimit}
 use Rattle.dqbf.specs.Literal.{Clause}
 use Rattle.dqbf.specs.Set.{Set, union, inside}
 use Rattle.dqbf.specs.Model.{emptyFrom, universalsIn}
-use Rattle.dqbf.proofs.Laws.Tests.{and-left, and-right, both, never}
+use Rattle.dqbf.proofs.Laws.Tests.{and-left, and-right, never}
 use Rattle.tables.specs.Tables.{stretch, cut, entry}
 use Rattle.tables.specs.Adding.{lowestAfter}
-use Rattle.tables.specs.WellFormed.{every, allOf, allVariables, endsRise, ascending, narrow, overKinds, clauseFits, clausesFit, lowest, newBit, universalBits, otherInside, isKind, undeclaredBare, kindStands, forksAbove, variableFits, variablesFit}
+use Rattle.tables.specs.WellFormed.{every, allOf, allVariables, endsRise, ascending, narrow, overKinds, clauseFits, clausesFit, lowest, newBit, universalBits, otherInside, isKind, bareIfUndeclared, kindStands, forksAbove, variableFits, variablesFit}
 use Rattle.tables.proofs.Laws.Tests.{every-at, every-from, every-fails, every-last}
 use Rattle.tables.proofs.Laws.Cuts.{stretch-length, rise-le}
 use Rattle.tables.proofs.Laws.Valid.{over-is, over-from}
@@ -195,15 +194,15 @@ module _ (declared : Bool) (places k s : ℕ) where
 
   module _ (h : k ≤ 3) (e : kindStands declared k ≡ true) where
     pub variable-undeclared : k ≡ 0 → eqb s 0 ≡ variableFits declared places k s
-    unfolding variableFits otherInside isKind undeclaredBare every
+    unfolding variableFits otherInside isKind bareIfUndeclared every
     variable-undeclared z = rw (e, z) (sym (and-true (eqb s 0)))
 
     pub variable-universal : (k ≡ 0 → ⊥) → k < 2 → variableFits declared places k s ≡ true
-    unfolding variableFits otherInside isKind undeclaredBare every
+    unfolding variableFits otherInside isKind bareIfUndeclared every
     variable-universal n l = let one : k ≡ 1 = omega (arith, n) in rw (e, one)
 
     pub variable-other : 2 ≤ k → inside s places ≡ variableFits declared places k s
-    unfolding variableFits otherInside isKind undeclaredBare every
+    unfolding variableFits otherInside isKind bareIfUndeclared every
     variable-other l = rw (e, le-leb 2 k l, le-leb k 3 h, ne-eqb k 0 (λ z. absurd (omega arith))) (sym (and-true (inside s places)))
 
 -- ---- the kinds and sets
@@ -236,7 +235,7 @@ module _ (kinds : List ℕ) (sets : List Set) (bound universals : ℕ) where
   pub variablesLeft : ℕ → Set → ℕ → Bool
   variablesLeft i seen count =
       every (eqb (count + universalsIn (drop i kinds)) universals ∷ universalBits seen (lowest universals) (drop i kinds) (drop i sets) ∷ allVariables (otherInside (lowest universals)) (drop i kinds) (drop i sets)
-      ∷ allOf isKind (drop i kinds) ∷ allVariables undeclaredBare (drop i kinds) (drop i sets) ∷ forksAbove (bound - i) (drop i kinds) ∷ [])
+      ∷ allOf isKind (drop i kinds) ∷ allVariables bareIfUndeclared (drop i kinds) (drop i sets) ∷ forksAbove (bound - i) (drop i kinds) ∷ [])
 
   pub variables-start : variablesFit bound universals kinds sets ≡ variablesLeft 0 0 0
   unfolding variablesFit variablesLeft
@@ -275,7 +274,7 @@ module _ (kinds : List ℕ) (sets : List Set) (bound universals : ℕ) where
       unfolding variableFits allOf
       kind-pass = rw (kinds-front, every-at _ f 1)
 
-      bare-pass : allVariables undeclaredBare (drop i kinds) (drop i sets) ≡ allVariables undeclaredBare (drop (i + 1) kinds) (drop (i + 1) sets)
+      bare-pass : allVariables bareIfUndeclared (drop i kinds) (drop i sets) ≡ allVariables bareIfUndeclared (drop (i + 1) kinds) (drop (i + 1) sets)
       unfolding variableFits allVariables
       bare-pass = rw (kinds-front, sets-front, every-at _ f 2)
 
@@ -317,7 +316,7 @@ module _ (kinds : List ℕ) (sets : List Set) (bound universals : ℕ) where
               and-left (otherInside places k s) _ (rw (← p, kinds-front, sets-front) at (every-at _ a 2)),
               (
                 and-left (isKind k) _ (rw kinds-front at (every-at _ a 3)),
-                (and-left (undeclaredBare k s) _ (rw (kinds-front, sets-front) at (every-at _ a 4)), (rw (← below-left i bound) at stands, tt)),
+                (and-left (bareIfUndeclared k s) _ (rw (kinds-front, sets-front) at (every-at _ a 4)), (rw (← below-left i bound) at stands, tt)),
               ),
             )
 

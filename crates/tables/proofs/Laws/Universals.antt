@@ -2,12 +2,11 @@
 --     size-single, single-size        a set of one place
 --     lowest-bit                      the lowest places
 --     Bits, bits-is, bits-from        what `universalBits` says, both ways
--- Assumes nothing.
 use mathlib.Core.Path.{_≡_, refl, ap, sym, _∙_}
 use mathlib.Core.Bool.{Bool, true, false, cond, _&&_, _||_, and-false, true≢false}
 use mathlib.Core.List.{List, [], _∷_}
 use mathlib.Core.Logic.{_⊎_, inl, inr, ⊎-elim}
-use Prim.Native.Nat.{ℕ, zero, suc, _+_, _-_, _*_, _/_, _%_, _^_, _≤_, _<_}
+use Prim.Native.Nat.{ℕ, zero, suc, _-_, _/_, _%_, _^_, _<_}
 use native.Mathlib.Nat.{pow-suc, mod-lt, zero-lt-suc, not-suc-le-zero, le-of-suc-le-suc}
 use native.Mathlib.Omega.{arith}
 use borrow.Author.Tests.{eqb-true, eqb-false, eq-eqb, ne-eqb, lt-ltb, le-ltb, ltb-true}
@@ -17,7 +16,7 @@ use lib.Count.{ones, ones-step, ones-ones}
 use lib.Dec.{eqb, ltb, leb·suc-suc}
 use lib.ListN.{length, getD}
 use lib.Pow.{pow-pos}
-use Rattle.dqbf.specs.Set.{Set, bit, single, union}
+use Rattle.dqbf.specs.Set.{bit, single, union}
 use Rattle.dqbf.proofs.Laws.Tests.{and-left, and-right, both, or-no, or-either, or-right}
 use Rattle.dqbf.proofs.Laws.Words.{bit-zero, bit-and, bit-or, bit-ext, bit-single}
 use Rattle.dqbf.proofs.Laws.Counting.{single-one}

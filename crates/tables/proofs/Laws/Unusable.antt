@@ -2,13 +2,12 @@
 --     unusable-short, unusable-ill, usable       the refusal that comes first
 --     number-short, number-ill, number-none      its number
 --     first-is, none-lent, none-formed           and back: what the number says
--- Assumes nothing.
-use mathlib.Core.Path.{_≡_, refl, sym, _∙_, ap}
+use mathlib.Core.Path.{_≡_, refl, sym, _∙_}
 use mathlib.Core.Bool.{Bool, true, false}
-use mathlib.Core.Option.{Option, none, some}
+use mathlib.Core.Option.{none, some}
 use Prim.Native.Nat.{ℕ}
 use native.Mathlib.Omega.{arith}
-use Rattle.dqbf.specs.Refusal.{Refusal, refusal, first}
+use Rattle.dqbf.specs.Refusal.{refusal, first}
 use Rattle.tables.specs.declared.State.{State}
 use Rattle.tables.specs.Tables.{Tables}
 use Rattle.tables.specs.WellFormed.{long, wellFormed}

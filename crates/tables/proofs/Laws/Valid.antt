@@ -3,29 +3,28 @@
 --     over-is, over-from               a clause over some kinds, both ways
 --     kind-entry, set-entry            kind and set of a variable are entries of the model's rows
 --     valid-is, valid-from             the test gives the record of facts, and back
--- Assumes nothing.
 use mathlib.Core.Path.{_≡_, refl, ap, sym, _∙_}
-use mathlib.Core.Bool.{Bool, true, false, cond, not, _&&_, true≢false}
-use mathlib.Core.List.{List, [], _∷_, _++_, List·Memᴰ, List·Memᴰ·head, List·Memᴰ·tail, List·Memᴰ·not-nil, List·Memᴰ·cases-cons, Memᴰ·append-left, List·Memᴰ·append-cases}
+use mathlib.Core.Bool.{Bool, true, false, cond, not, true≢false}
+use mathlib.Core.List.{List, [], _∷_, _++_, List·Memᴰ·head, List·Memᴰ·tail, List·Memᴰ·not-nil, List·Memᴰ·cases-cons, Memᴰ·append-left, List·Memᴰ·append-cases}
 use mathlib.Core.Logic.{_≢_, _⊎_, inl, inr, ⊎-elim}
 use Prim.Native.Nat.{ℕ, zero, suc, _+_, _-_, _≤_, _<_}
-use native.Mathlib.Nat.{not-suc-le-zero, le-of-suc-le-suc}
+use native.Mathlib.Nat.{le-of-suc-le-suc}
 use native.Mathlib.Omega.{arith}
 use borrow.Author.Tests.{eqb-true, eqb-false, leb-true, ltb-true, ltb-false, eq-eqb, ne-eqb, le-leb, lt-ltb, not-true}
 use lib.Dec.{eqb, leb, ltb}
 use lib.IntN.{ℤ, natAbs}
-use lib.ListN.{length, getD, take, replicate, length-append, length-replicate, List·getD-eq-default, List·getD-append, getD-replicate}
-use lib.Seq.{take-append-seam, getD-append-add}
-use Rattle.dqbf.specs.Limits.{clauseLimit, literalLimit, variableLimit, widthLimit, universalLimit, tables}
-use Rattle.dqbf.specs.Literal.{Clause, _∈_, total}
-use Rattle.dqbf.specs.Set.{Set, bit, single, emptySet, inside}
+use lib.ListN.{length, getD, take, replicate, length-append, length-replicate, List·getD-eq-default, List·getD-append}
+use lib.Seq.{take-append-seam}
+use Rattle.dqbf.specs.Limits.{tables}
+use Rattle.dqbf.specs.Literal.{Clause, _∈_}
+use Rattle.dqbf.specs.Set.{bit, single, emptySet, inside}
 use Rattle.dqbf.specs.Model.{Model, clauses, used, steps, universalCount, universalsIn, kindOf, setOf}
 use Rattle.dqbf.specs.Valid.{Ascending, Kept, Valid}
 use Rattle.dqbf.proofs.Laws.Tests.{and-left, and-right, both}
 use Rattle.dqbf.proofs.Laws.Words.{bit-zero, bit-single, bit-inside}
 use Rattle.tables.specs.Tables.{entry}
 use Rattle.tables.specs.Spread.{kindRow, setRow, stateOf}
-use Rattle.tables.specs.WellFormed.{every, allOf, allVariables, ascending, narrow, overKinds, clausesFit, countsFit, lowest, universalBits, otherInside, isKind, undeclaredBare, forksAbove, variablesFit, valid}
+use Rattle.tables.specs.WellFormed.{allOf, ascending, narrow, overKinds, clausesFit, lowest, otherInside, isKind, bareIfUndeclared, forksAbove, variablesFit, valid}
 use Rattle.tables.proofs.Laws.Tests.{every-at, every-from, all-member, all-getD, all-from, variables-at, variables-from}
 use Rattle.tables.proofs.Laws.Formed.{Counts, counts-is, counts-to}
 use Rattle.tables.proofs.Laws.Held.{universals-threes}
@@ -179,13 +178,13 @@ module _ (m : Model) (e : valid m ≡ true) where
   filled i h = let r = bits .filled i h (bit-zero i) in (suc (r .0), r .2, r .3)
 
   bare : (v : ℕ) → kindOf m v ≡ 0 → setOf m v ≡ 0
-  unfolding kindOf setOf variablesFit undeclaredBare kindRow setRow
+  unfolding kindOf setOf variablesFit bareIfUndeclared kindRow setRow
   bare zero q = refl
   bare (suc i) q = go (ltb i (length (kindRow m))) refl
     where
       go : (b : Bool) → ltb i (length (kindRow m)) ≡ b → getD (setRow m) i 0 ≡ 0
       go true h =
-          let p = variables-at undeclaredBare (kindRow m) (setRow m) rows (every-at _ variable-test 4) i (ltb-true i _ h) in
+          let p = variables-at bareIfUndeclared (kindRow m) (setRow m) rows (every-at _ variable-test 4) i (ltb-true i _ h) in
           eqb-true _ _ (rw q at p)
       go false h = List·getD-eq-default (setRow m) 0 (rw rows (ltb-false i _ h))
 
@@ -324,8 +323,8 @@ module _ (m : Model) (v : Valid tables m) where
       go true = bit-inside (getD (setRow m) i 0) (lowest (universalCount m)) .1 (λ j b. lowest-bit (universalCount m) j ∙ lt-ltb j _ (v .within (suc i) j b))
       go false = refl
 
-  bare-from : (i : ℕ) → i < length (kindRow m) → undeclaredBare (getD (kindRow m) i 0) (getD (setRow m) i 0) ≡ true
-  unfolding undeclaredBare kindOf setOf kindRow setRow
+  bare-from : (i : ℕ) → i < length (kindRow m) → bareIfUndeclared (getD (kindRow m) i 0) (getD (setRow m) i 0) ≡ true
+  unfolding bareIfUndeclared kindOf setOf kindRow setRow
   bare-from i h = go (eqb (getD (kindRow m) i 0) 0) refl
     where
       go : (b : Bool) → eqb (getD (kindRow m) i 0) 0 ≡ b → cond b (eqb (getD (setRow m) i 0) 0) true ≡ true
@@ -351,7 +350,7 @@ module _ (m : Model) (v : Valid tables m) where
         (
           kinds-from,
           (
-            variables-from undeclaredBare (kindRow m) (setRow m) rows-even bare-from,
+            variables-from bareIfUndeclared (kindRow m) (setRow m) rows-even bare-from,
             (
               forks-hold,
               tt,

@@ -1,11 +1,10 @@
 -- Entries that are 0, tested and written one after the other.
 --     zero-yes, zero-no, zero-literal-yes, zero-literal-no     the test of one entry; a literal is tested by its bits
 --     cleared-next, cleared-all, cleared-tables                one turn of the clearing, its end, and all four tables
--- Assumes nothing.
 use mathlib.Core.Path.{_≡_, refl, ap, sym, _∙_}
-use mathlib.Core.Bool.{Bool, true, false}
+use mathlib.Core.Bool.{true, false}
 use mathlib.Core.List.{List, [], _∷_, _++_, append-assoc}
-use Prim.Native.Nat.{ℕ, zero, suc, _+_, _-_, _≤_, _<_, _^_}
+use Prim.Native.Nat.{ℕ, suc, _+_, _-_, _≤_, _<_, _^_}
 use native.Mathlib.Nat.{sub-zero}
 use native.Mathlib.Numerals.{add-one}
 use native.Mathlib.Omega.{arith}

@@ -1,4 +1,4 @@
--- `tables::adding::add_clause` meets its contract. Assumes nothing.
+-- `tables::adding::add_clause` meets its contract.
 use mathlib.Core.Path.{_∙_, ap}
 use native.Mathlib.Omega.{arith}
 use borrow.Author.Needs.{needs}

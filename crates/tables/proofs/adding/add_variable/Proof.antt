@@ -1,4 +1,4 @@
--- `tables::adding::add_variable` meets its contract. Assumes nothing.
+-- `tables::adding::add_variable` meets its contract.
 use mathlib.Core.Path.{refl}
 use borrow.Author.Needs.{needs}
 use Rattle.tables.specs.Adding.{variableAdded}

@@ -1,8 +1,7 @@
--- `tables::adding::end_clause` meets its contract. Assumes nothing.
-use mathlib.Core.Path.{_≡_, refl, ap}
+-- `tables::adding::end_clause` meets its contract.
+use mathlib.Core.Path.{refl}
 use borrow.Author.Needs.{needs}
 use Rattle.tables.specs.Adding.{clauseEnded}
-use Rattle.tables.specs.declared.State.{State}
 use Rattle.tables.proofs.adding.end_clause.Statement.{statement}
 use Rattle.tables.proofs.adding.end_clause.Tie as tie
 

@@ -1,4 +1,4 @@
--- `tables::adding::is_full` meets its contract. Assumes nothing.
+-- `tables::adding::is_full` meets its contract.
 use borrow.Author.Needs.{needs}
 use borrow.Author.Tests.{lt-ltb, le-ltb}
 use Rattle.tables.specs.Adding.{full}

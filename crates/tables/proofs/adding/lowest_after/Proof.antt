@@ -1,4 +1,4 @@
--- `tables::adding::lowest_after` meets its contract. Assumes nothing.
+-- `tables::adding::lowest_after` meets its contract.
 use borrow.Author.Tests.{eq-eqb, ne-eqb}
 use Rattle.tables.specs.Adding.{lowestAfter}
 use Rattle.tables.proofs.adding.lowest_after.Statement.{statement}

@@ -1,4 +1,4 @@
--- `tables::entries::clause_end` meets its contract. Assumes nothing.
+-- `tables::entries::clause_end` meets its contract.
 use borrow.Author.Needs.{needs}
 use Prim.Native.Nat.{_-_}
 use native.Mathlib.Omega.{arith}

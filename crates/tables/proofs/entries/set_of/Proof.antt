@@ -1,4 +1,4 @@
--- `tables::entries::set_of` meets its contract. Assumes nothing.
+-- `tables::entries::set_of` meets its contract.
 use borrow.Author.Needs.{needs}
 use Rattle.tables.proofs.Laws.Entries.{entry-none, entry-some, entry-past}
 use Rattle.tables.proofs.entries.set_of.Statement.{statement}

@@ -1,4 +1,4 @@
--- `tables::formed::clause_fits` meets its contract. Assumes nothing.
+-- `tables::formed::clause_fits` meets its contract.
 use mathlib.Core.Path.{_≡_, sym, _∙_}
 use Prim.Native.Nat.{_≤_, _-_}
 use lib.IntN.{pos, natAbs}

@@ -1,4 +1,4 @@
--- `tables::formed::clauses_fit` meets its contract. Assumes nothing.
+-- `tables::formed::clauses_fit` meets its contract.
 use mathlib.Core.List.{[], _∷_}
 use mathlib.Core.Path.{_≡_, sym, _∙_}
 use Prim.Native.Nat.{_≤_, _-_}

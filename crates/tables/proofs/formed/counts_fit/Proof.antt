@@ -1,4 +1,4 @@
--- `tables::formed::counts_fit` meets its contract. Assumes nothing.
+-- `tables::formed::counts_fit` meets its contract.
 use mathlib.Core.List.{[], _∷_}
 use mathlib.Core.Path.{sym}
 use borrow.Author.Needs.{needs}

@@ -1,5 +1,5 @@
--- `tables::formed::first_refusal` meets its contract. Assumes nothing.
-use mathlib.Core.Path.{_≡_, sym, _∙_}
+-- `tables::formed::first_refusal` meets its contract.
+use mathlib.Core.Path.{sym, _∙_}
 use borrow.Author.Needs.{needs}
 use borrow.Author.Tests.{not-true, not-false}
 use Rattle.tables.proofs.Laws.Unusable.{number-short, number-ill, number-none}

@@ -1,6 +1,5 @@
--- `tables::formed::highest_kind` meets its contract. Assumes nothing.
+-- `tables::formed::highest_kind` meets its contract.
 use borrow.Author.Tests.{lt-ltb, le-ltb}
-use borrow.Author.Needs.{needs}
 use Rattle.tables.proofs.formed.highest_kind.Statement.{statement}
 use Rattle.tables.proofs.formed.highest_kind.Tie as tie
 

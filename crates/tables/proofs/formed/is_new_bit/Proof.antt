@@ -1,7 +1,6 @@
--- `tables::formed::is_new_bit` meets its contract. Assumes nothing.
+-- `tables::formed::is_new_bit` meets its contract.
 use borrow.Author.Tests.{eq-eqb, ne-eqb}
 use Rattle.tables.specs.WellFormed.{newBit}
-use borrow.Author.Needs.{needs}
 use Rattle.tables.proofs.formed.is_new_bit.Statement.{statement}
 use Rattle.tables.proofs.formed.is_new_bit.Tie as tie
 

@@ -1,6 +1,5 @@
--- `tables::formed::kind_stands` meets its contract. Assumes nothing.
+-- `tables::formed::kind_stands` meets its contract.
 use Rattle.tables.specs.WellFormed.{kindStands}
-use borrow.Author.Needs.{needs}
 use Rattle.tables.proofs.formed.kind_stands.Statement.{statement}
 use Rattle.tables.proofs.formed.kind_stands.Tie as tie
 

@@ -1,9 +1,8 @@
--- `tables::formed::long_enough` meets its contract. Assumes nothing.
+-- `tables::formed::long_enough` meets its contract.
 use mathlib.Core.Path.{sym}
 use borrow.Author.Tests.{lt-leb, le-leb}
 use Rattle.tables.specs.WellFormed.{long}
 use Rattle.tables.proofs.Laws.Tests.{every-fails, every-from}
-use borrow.Author.Needs.{needs}
 use Rattle.tables.proofs.formed.long_enough.Statement.{statement}
 use Rattle.tables.proofs.formed.long_enough.Tie as tie
 

@@ -1,4 +1,4 @@
--- `tables::formed::lowest_places` meets its contract. Assumes nothing.
+-- `tables::formed::lowest_places` meets its contract.
 use mathlib.Core.Path.{_≡_}
 use native.Mathlib.Omega.{arith}
 use borrow.Author.Needs.{needs}

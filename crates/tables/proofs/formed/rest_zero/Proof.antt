@@ -1,4 +1,4 @@
--- `tables::formed::rest_zero` meets its contract. Assumes nothing.
+-- `tables::formed::rest_zero` meets its contract.
 use mathlib.Core.List.{[], _∷_}
 use mathlib.Core.Path.{sym, _∙_}
 use borrow.Author.Needs.{needs}

@@ -1,4 +1,4 @@
--- `tables::formed::variables_fit` meets its contract. Assumes nothing.
+-- `tables::formed::variables_fit` meets its contract.
 use mathlib.Core.Path.{_≡_, sym, _∙_}
 use Prim.Native.Nat.{_≤_, _-_}
 use native.Mathlib.Omega.{arith}

@@ -1,4 +1,4 @@
--- `tables::zero::clear` meets its contract. Assumes nothing.
+-- `tables::zero::clear` meets its contract.
 use borrow.Author.Needs.{needs}
 use Rattle.tables.proofs.Laws.Formed.{long-is}
 use Rattle.tables.proofs.Laws.Zeros.{cleared-tables}

@@ -1,4 +1,4 @@
--- `tables::zero::clear_ends` meets its contract. Assumes nothing.
+-- `tables::zero::clear_ends` meets its contract.
 use mathlib.Core.List.{_++_}
 use mathlib.Core.Path.{_≡_, refl}
 use Prim.Native.Nat.{_≤_, _-_}

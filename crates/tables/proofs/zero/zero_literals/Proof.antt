@@ -1,4 +1,4 @@
--- `tables::zero::zero_literals` meets its contract. Assumes nothing.
+-- `tables::zero::zero_literals` meets its contract.
 use mathlib.Core.Path.{_≡_, refl, sym, _∙_}
 use Prim.Native.Nat.{_≤_, _-_}
 use lib.IntN.{pos}

@@ -1,4 +1,4 @@
--- `tables_test::fill::bits` meets its contract. Assumes nothing.
+-- `tables_test::fill::bits` meets its contract.
 use Prim.Native.Nat.{_≤_, _-_}
 use borrow.Author.Needs.{needs}
 use Rattle.tables_test.proofs.fill.bits.Statement.{statement}

@@ -1,7 +1,5 @@
--- `tables_test::fill::literals` meets its contract. Assumes nothing.
-use mathlib.Core.Path.{_≡_}
+-- `tables_test::fill::literals` meets its contract.
 use Prim.Native.Nat.{_≤_, _<_, _-_}
-use lib.ListN.{length}
 use borrow.Author.Needs.{needs}
 use Rattle.tables_test.proofs.fill.literals.Statement.{statement}
 use Rattle.tables_test.proofs.fill.literals.Tie as tie

@@ -1,4 +1,4 @@
--- `tables_test::growth::clear` meets its contract. Assumes nothing.
+-- `tables_test::growth::clear` meets its contract.
 use mathlib.Core.Path.{sym, _∙_}
 use borrow.Author.Needs.{needs}
 use borrow.Author.Tests.{not-false}

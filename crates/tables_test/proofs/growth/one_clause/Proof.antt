@@ -1,4 +1,4 @@
--- `tables_test::growth::one_clause` meets its contract. Assumes nothing.
+-- `tables_test::growth::one_clause` meets its contract.
 use mathlib.Core.Path.{sym, _∙_}
 use borrow.Author.Needs.{needs}
 use Rattle.tables.proofs.Laws.Adding.{room-is}

@@ -1,4 +1,4 @@
--- `tables_test::questioned::write_literals` meets its contract. Assumes nothing.
+-- `tables_test::questioned::write_literals` meets its contract.
 use Prim.Native.Nat.{_≤_, _-_}
 use lib.ListN.{length}
 use borrow.Author.Needs.{needs}

@@ -1,0 +1,7 @@
+pub mod Clauses
+pub mod Held
+pub mod Join
+pub mod Literals
+pub mod Narrowing
+pub mod Sets
+pub mod Writing

@@ -1,0 +1,70 @@
+-- `parts::write_fork` meets its contract.
+use native.Mathlib.Omega.{arith}
+use borrow.Author.Needs.{needs, sfits-of}
+use lib.ListN.{length-append}
+use mir.Syntax.{w16}
+use mir.Facts.{toZ-ofZ}
+use Rattle.clauses.proofs.Laws.Writing.{written-behind, tail-room}
+use Rattle.clauses.proofs.parts.write_fork.Statement.{statement}
+use Rattle.clauses.proofs.parts.write_fork.Tie as tie
+
+write-part-requires : tie.Need-write-part-requires
+write-part-requires c κs = search needs
+
+mul-write-part : tie.Need-mul-write-part
+mul-write-part c =
+    let first = simp length-append at (c .before .write-part .ensures .count) in
+    search needs
+
+sub-write-part : tie.Need-sub-write-part
+sub-write-part c =
+    let first = simp length-append at (c .before .write-part .ensures .count) in
+    search needs
+
+part-write-part-start : tie.Need-part-write-part-start
+part-write-part-start c =
+    let first = simp length-append at (c .before .write-part .ensures .count) in
+    search needs
+
+part-write-part-end : tie.Need-part-write-part-end
+part-write-part-end c = search needs
+
+negated-requires : tie.Need-negated-requires
+negated-requires c κs = search needs
+
+write-part-requires-2 : tie.Need-write-part-requires-2
+write-part-requires-2 c κs =
+    let first = simp length-append at (c .before .before .before .write-part .ensures .count) in
+    tail-room (c .before .before .before .write-part .last .0) (c .before .before .before .write-part .result) (omega arith)
+
+add-result : tie.Need-add-result
+add-result c =
+    let first = simp length-append at (c .before .before .before .before .before .write-part .ensures .count) in
+    let second = simp length-append at (c .before .write-part2 .ensures .count) in
+    search needs
+
+same-length : tie.Need-same-length
+same-length c = search needs
+
+returns : tie.Need-returns
+returns c =
+    let v = toZ-ofZ (c .before .before .before .before .before .before .before .fits .variable) in
+    let left = rw v at (c .before .before .before .before .before .write-part .ensures) in
+    let right = rw (toZ-ofZ {w = w16} (sfits-of (c .before .before .negated .ok)), c .before .before .negated .ensures, v) at (c .before .write-part2 .ensures) in
+    let first = simp length-append at (left .count) in
+    written-behind left (omega (arith, left .count)) right
+
+pub write-fork-spec : {M : Type 1} → statement M
+write-fork-spec =
+    tie.close
+    (tie.spec
+    write-part-requires
+    mul-write-part
+    sub-write-part
+    part-write-part-start
+    part-write-part-end
+    negated-requires
+    write-part-requires-2
+    add-result
+    same-length
+    returns)

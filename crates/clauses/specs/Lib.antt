@@ -1,0 +1,4 @@
+pub mod Held
+pub mod Join
+pub mod Sets
+pub mod Writing
