@@ -9,3 +9,5 @@ pub mod Declaring
 pub mod LineTests
 pub mod PrefixLines
 pub mod ClauseLines
+pub mod OpeningLines
+pub mod LineForms

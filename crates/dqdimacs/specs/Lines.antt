@@ -2,7 +2,7 @@
 --     phaseNumber, progressOf        a reader by value
 --     refusalOf                      a number of refusal, 0 for none, as the first test that applies
 --     ReadSoFar, Known, Framed, LineRead     what the tables hold between two lines, and behind a line
---     Within, clauseAdded            the counts
+--     Within, clauseAdded, emptyState     the counts
 --     onLine, universalAdded, DeclaredAll     variables of an `a` or an `e` line declared one after the other
 use mathlib.Core.Path.{_≡_}
 use mathlib.Core.Bool.{Bool, true, false, cond}
@@ -20,6 +20,7 @@ use Rattle.dqbf.proofs.Reading.Lines.{Sane}
 use Rattle.forms.specs.Order.{allInserted}
 use Rattle.tables.specs.Tables.{Tables}
 use Rattle.tables.specs.Spread.{spread, stateOf, blank}
+use Rattle.tables.specs.declared.State.{State}
 use Rattle.tables.specs.WellFormed.{long}
 use Rattle.tables.specs.Adding.{clauseEnded, formulaCounted}
 use Rattle.dqdimacs.specs.Pending.{pending}
@@ -79,6 +80,19 @@ pub record Within (p : Progress) : Type 0 where
 -- one formula clause more, of so many literals
 unfoldable pub clauseAdded : Progress → ℕ → Progress
 clauseAdded p width = record { phase = 2; count = p .count; places = p .places; state = formulaCounted (clauseEnded (p .state) width) }
+
+-- V variables in use, and nothing else
+abbrev pub emptyState : ℕ → State
+emptyState v = record {
+  bound = record { 0 = v };
+  variables = record { 0 = v };
+  universals = 0;
+  formula = record { 0 = 0 };
+  clauses = record { 0 = 0 };
+  literals = 0;
+  steps = record { 0 = 0 };
+  empty = record { 0 = 0 };
+}
 
 -- ---- variables of an `a` line (true) or an `e` line, one after the other
 

@@ -15,5 +15,6 @@ pub struct Loaded {
 
 pub mod clause;
 pub mod declarations;
+pub mod lines;
 pub mod progress;
 pub mod refusal;
