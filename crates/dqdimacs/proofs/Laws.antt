@@ -11,3 +11,4 @@ pub mod PrefixLines
 pub mod ClauseLines
 pub mod OpeningLines
 pub mod LineForms
+pub mod Texts

@@ -2,6 +2,7 @@
 --     phaseNumber, progressOf        a reader by value
 --     refusalOf                      a number of refusal, 0 for none, as the first test that applies
 --     ReadSoFar, Known, Framed, LineRead     what the tables hold between two lines, and behind a line
+--     TextRead                       what the tables hold behind the text
 --     Within, clauseAdded, emptyState     the counts
 --     onLine, universalAdded, DeclaredAll     variables of an `a` or an `e` line declared one after the other
 use mathlib.Core.Path.{_≡_}
@@ -15,7 +16,7 @@ use Rattle.dqbf.specs.Refusal.{Refusal, refusal, first}
 use Rattle.dqbf.specs.Set.{Set, union}
 use Rattle.dqbf.specs.Formula.{Declaration, onA, onE, universals, declared}
 use Rattle.dqbf.specs.Model.{wordOf}
-use Rattle.dqbf.specs.Reading.{Form, Phase, opening, prefixLines, clauseLines, Reader, start, fresh, lineTests, declaring, taken}
+use Rattle.dqbf.specs.Reading.{Form, Phase, opening, prefixLines, clauseLines, Reader, start, fresh, lineTests, declaring, taken, Loaded, accepted, refused}
 use Rattle.dqbf.proofs.Reading.Lines.{Sane}
 use Rattle.forms.specs.Order.{allInserted}
 use Rattle.tables.specs.Tables.{Tables}
@@ -26,6 +27,7 @@ use Rattle.tables.specs.Adding.{clauseEnded, formulaCounted}
 use Rattle.dqdimacs.specs.Pending.{pending}
 use Rattle.dqdimacs.specs.declared.progress.Progress.{Progress}
 use Rattle.dqdimacs.specs.declared.progress.LineAnswer.{LineAnswer}
+use Rattle.dqdimacs.specs.declared.progress.TextAnswer.{TextAnswer}
 
 unfoldable pub phaseNumber : Phase → ℕ
 phaseNumber opening = 0
@@ -65,6 +67,12 @@ Framed t now = spread blank now ≡ spread blank t
 pub record LineRead (t : Tables) (r : Reader) (f : Form) (a : LineAnswer) (now : Tables) : Type 0 where
   pub told : first (lineTests r f) ≡ refusalOf (a .refusal)
   pub held : a .refusal ≡ 0 → ReadSoFar t (taken r f) (a .progress) now
+  pub framed : Framed t now
+
+-- The whole text was read, and came to o: the reader at its end, or the line with its number.
+pub record TextRead (t : Tables) (o : Loaded) (a : TextAnswer) (now : Tables) : Type 0 where
+  pub accepts : a .refusal ≡ 0 → (r : Reader) × (o ≡ accepted (r .formula)) × ReadSoFar t r (a .progress) now
+  pub refuses : (a .refusal ≡ 0 → ⊥) → o ≡ refused (a .line) (a .refusal)
   pub framed : Framed t now
 
 -- the counts are within the limits

@@ -17,4 +17,5 @@ pub mod clause;
 pub mod declarations;
 pub mod lines;
 pub mod progress;
+pub mod reading;
 pub mod refusal;

@@ -27,6 +27,13 @@ pub struct LineAnswer {
     pub refusal: u32,
 }
 
+// What a text came to: its number of refusal, 0 where it is accepted, with the line.
+pub struct TextAnswer {
+    pub progress: Progress,
+    pub line: u32,
+    pub refusal: u32,
+}
+
 // One universal more, with its set.
 pub fn add_universal(progress: Progress, set: u64) -> Progress
     requires { ⌜ progress .state .universals < universalLimit ⌝ }
