@@ -15,6 +15,7 @@ pub struct Loaded {
 
 pub mod clause;
 pub mod declarations;
+pub mod finishing;
 pub mod lines;
 pub mod progress;
 pub mod reading;
