@@ -12,3 +12,4 @@ pub mod ClauseLines
 pub mod OpeningLines
 pub mod LineForms
 pub mod Texts
+pub mod Loading
