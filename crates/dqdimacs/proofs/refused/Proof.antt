@@ -1,0 +1,17 @@
+use borrow.Author.Needs.{needs}
+use Rattle.dqdimacs.proofs.refused.Statement.{statement}
+use Rattle.dqdimacs.proofs.refused.Tie as tie
+use Rattle.dqdimacs.proofs.refused.Reads as reads
+use Rattle.dqdimacs.proofs.refused.Lts as lts
+use Rattle.dqdimacs.proofs.lines.empty_state.Reads as empty-state-reads
+
+-- src/lib.rt:35:9
+empty-state-requires : tie.Need-empty-state-requires
+empty-state-requires c κs = search needs
+
+-- src/lib.rt:32:1
+returns : tie.Need-returns
+returns c = rw (c .empty-state .ensures)
+
+pub refused-spec : {M : Type 1} → statement M
+refused-spec = tie.close (tie.spec empty-state-requires returns)

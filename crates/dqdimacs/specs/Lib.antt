@@ -1,0 +1,4 @@
+pub mod Loading
+pub mod Pending
+pub mod Lines
+pub mod Rows
