@@ -22,9 +22,9 @@ lineOf (Formula l n) = formulaLine l n
 abbrev pub outputSize : ℕ
 outputSize = 32
 
--- The line over the front of the output; nothing, where the output is too short.
-unfoldable pub withLine : Verdict → List ℕ → List ℕ
-withLine v out = cond (ltb (length out) outputSize) out (lineOf v ++ drop (length (lineOf v)) out)
+-- A line over the front of the output; nothing, where the output is too short.
+unfoldable pub withLine : (line out : List ℕ) → List ℕ
+withLine line out = cond (ltb (length out) outputSize) out (line ++ drop (length line) out)
 
-unfoldable pub written : Verdict → List ℕ → Written
-written v out = cond (ltb (length out) outputSize) TooShort (Bytes (length (lineOf v)))
+unfoldable pub written : (line out : List ℕ) → Written
+written line out = cond (ltb (length out) outputSize) TooShort (Bytes (length line))

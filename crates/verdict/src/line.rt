@@ -5,7 +5,7 @@ ghost use Prim.Native.Nat.{_≤_};
 ghost use lib.ListN.{length, drop};
 ghost use Rattle.dqbf.specs.Text.{space};
 ghost use Rattle.dqbf.specs.Line.{digitsOf, spaced};
-ghost use Rattle.verdict.specs.Lines.{written, withLine};
+ghost use Rattle.verdict.specs.Lines.{lineOf, written, withLine};
 
 // What is printed: accepted steps and lowest empty clause; accepted steps; a step with its refusal; a line of the formula with its refusal.
 pub enum Verdict {
@@ -88,7 +88,7 @@ fn write_word_two(out: &mut [u8], word: &[u8], n: u32, k: u32) -> usize
 
 // Writes the line to the front of `out`; the rest stays.
 pub fn write_line(out: &mut [u8], verdict: Verdict) -> Written
-    ensures { λ r. ⌜ (r ≡ written verdict (now (out .entry))) × (now (out .exit) ≡ withLine verdict (now (out .entry))) ⌝ }
+    ensures { λ r. ⌜ (r ≡ written (lineOf verdict) (now (out .entry))) × (now (out .exit) ≡ withLine (lineOf verdict) (now (out .entry))) ⌝ }
 {
     if out.len() < 32 {
         return Written::TooShort;

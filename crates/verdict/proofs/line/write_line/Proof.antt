@@ -16,7 +16,7 @@ use Rattle.verdict.proofs.line.write_word_two.Reads as write-word-two-r
 
 -- src/line.rt:94:9
 returns : tie.Need-returns
-returns c = too-short (c .before .before .args .verdict) (c .before .before .args .out .now) (c .if1 .taken)
+returns c = too-short (lineOf (c .before .before .args .verdict)) (c .before .before .args .out .now) (c .if1 .taken)
 
 -- src/line.rt:97:26
 enum-known-verdict : tie.Need-enum-known-verdict
@@ -78,7 +78,7 @@ returns-2 c =
     let a = c .before .before .before .before .before .before .before .before .before .before in
     let g = c .before .before .before .before .before .before .verdict .given in
     let left = c .before .before .before .before .before .before .before .before .if1 .left in
-    wrote (a .args .verdict) (a .args .out .now) (w .last .0) (lineOf (Refuted (g .0 .0) (g .0 .1 .0))) (w .result) left (ap lineOf (g .1)) (w .ensures .0) (w .ensures .1)
+    wrote (lineOf (a .args .verdict)) (a .args .out .now) (w .last .0) (lineOf (Refuted (g .0 .0) (g .0 .1 .0))) (w .result) left (ap lineOf (g .1)) (w .ensures .0) (w .ensures .1)
 
 -- src/line.rt:90:1
 same-length-2 : tie.Need-same-length-2
@@ -92,7 +92,7 @@ returns-3 c =
     let a = c .before .before .before .before .before .before .before .before .before .before in
     let g = c .before .before .before .before .before .before .verdict2 .given in
     let left = c .before .before .before .before .before .before .before .before .if1 .left in
-    wrote (a .args .verdict) (a .args .out .now) (w .last .0) (lineOf (Open (g .0 .0))) (w .result) left (ap lineOf (g .1)) (w .ensures .0) (w .ensures .1)
+    wrote (lineOf (a .args .verdict)) (a .args .out .now) (w .last .0) (lineOf (Open (g .0 .0))) (w .result) left (ap lineOf (g .1)) (w .ensures .0) (w .ensures .1)
 
 -- src/line.rt:90:1
 same-length-3 : tie.Need-same-length-3
@@ -106,7 +106,7 @@ returns-4 c =
     let a = c .before .before .before .before .before .before .before .before .before .before in
     let g = c .before .before .before .before .before .before .verdict3 .given in
     let left = c .before .before .before .before .before .before .before .before .if1 .left in
-    wrote (a .args .verdict) (a .args .out .now) (w .last .0) (lineOf (Bad (g .0 .0) (g .0 .1 .0))) (w .result) left (ap lineOf (g .1)) (w .ensures .0) (w .ensures .1)
+    wrote (lineOf (a .args .verdict)) (a .args .out .now) (w .last .0) (lineOf (Bad (g .0 .0) (g .0 .1 .0))) (w .result) left (ap lineOf (g .1)) (w .ensures .0) (w .ensures .1)
 
 -- src/line.rt:90:1
 same-length-4 : tie.Need-same-length-4
@@ -120,7 +120,7 @@ returns-5 c =
     let a = c .before .before .before .before .before .before .before .before .before .before in
     let g = c .before .before .before .before .before .before .verdict4 .given in
     let left = c .before .before .before .before .before .before .before .before .if1 .left in
-    wrote (a .args .verdict) (a .args .out .now) (w .last .0) (lineOf (Formula (g .0 .0) (g .0 .1 .0))) (w .result) left (ap lineOf (g .1)) (w .ensures .0) (w .ensures .1)
+    wrote (lineOf (a .args .verdict)) (a .args .out .now) (w .last .0) (lineOf (Formula (g .0 .0) (g .0 .1 .0))) (w .result) left (ap lineOf (g .1)) (w .ensures .0) (w .ensures .1)
 
 pub write-line-spec : {M : Type 1} → statement M
 write-line-spec =
