@@ -1,5 +1,6 @@
 //! `cases --seed S --count N` with `--out FILE`, `--dir DIR` or `--lines FILE`
 //! writes cases; `--only PREFIX` keeps those whose label begins so.
+//! `cases --vectors DIR` writes the data and the stdout of the program `vectors`.
 
 #![forbid(unsafe_code)]
 
@@ -8,10 +9,10 @@ use std::io;
 use std::path::{Path, PathBuf};
 use std::process::ExitCode;
 
-use cases::{container, generate};
+use cases::{container, fixed, generate, packed};
 
 const USAGE: &str = "usage: cases [--seed S] [--count N] [--only PREFIX] \
-    [--out FILE] [--dir DIR] [--lines FILE]";
+    [--out FILE] [--dir DIR] [--lines FILE] [--vectors DIR]";
 
 #[derive(Default)]
 struct Options {
@@ -21,6 +22,7 @@ struct Options {
     out: Option<PathBuf>,
     dir: Option<PathBuf>,
     lines: Option<PathBuf>,
+    vectors: Option<PathBuf>,
 }
 
 fn options() -> Option<Options> {
@@ -35,13 +37,26 @@ fn options() -> Option<Options> {
             "--out" => options.out = Some(value.into()),
             "--dir" => options.dir = Some(value.into()),
             "--lines" => options.lines = Some(value.into()),
+            "--vectors" => options.vectors = Some(value.into()),
             _ => return None,
         }
     }
     Some(options)
 }
 
+/// The fixed cases as the program `vectors` has them in its folder.
+fn write_vectors(folder: &Path) -> io::Result<usize> {
+    let cases = fixed();
+    fs::create_dir_all(folder.join("data"))?;
+    fs::write(folder.join("data/cases.bin"), packed::pack(&cases))?;
+    fs::write(folder.join("stdout"), packed::printed(&cases))?;
+    Ok(cases.len())
+}
+
 fn write(options: &Options) -> io::Result<usize> {
+    if let Some(folder) = options.vectors.as_deref() {
+        return write_vectors(folder);
+    }
     let mut cases = generate(options.seed, options.count);
     cases.retain(|case| case.label.starts_with(&options.only));
     let file = |path: &Option<PathBuf>, bytes: &[u8]| match path {

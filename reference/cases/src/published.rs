@@ -15,7 +15,50 @@ use crate::random::Random;
 
 /// All cases of this module.
 pub fn cases() -> Vec<Case> {
-    [published(), bad_examples()].concat()
+    [published(), theorem_steps(), bad_examples()].concat()
+}
+
+/// On the formula of 000, Theorem 2, every resolution on complementary literals,
+/// every reduction of a literal and every fork into two parts: all are refused.
+fn theorem_steps() -> Vec<Case> {
+    let start = State::load(THEOREM).expect("the formula is within the limits");
+    let clauses: Vec<Vec<i32>> = (1..=start.counts().clauses)
+        .map(|number| start.clause(number.into()).expect("in use"))
+        .map(|clause| clause.iter().map(|literal| literal.number() as i32).collect())
+        .collect();
+    let numbers = || (1..).zip(&clauses);
+    let mut steps = Vec::new();
+    for (first, clause) in numbers() {
+        for &literal in clause {
+            steps.push(Step::Reduction { clause: first, literal });
+            let others = numbers().filter(|(_, other)| other.contains(&-literal));
+            steps.extend(others.map(|(second, _)| Step::Resolution {
+                first,
+                second,
+                pivot: literal,
+            }));
+        }
+        let all = (1u32 << clause.len()) - 1;
+        steps.extend((0..=all).map(|left| Step::Fork {
+            clause: first,
+            left,
+            right: all & !left,
+        }));
+    }
+    let case = |step: &Step| {
+        let label = format!("published/000 theorem 2, {}", words(*step));
+        Case::checked(label, THEOREM.into(), encode(*step).to_vec())
+    };
+    steps.iter().map(case).collect()
+}
+
+/// A step in words, as the fixed tables write it.
+fn words(step: Step) -> String {
+    match step {
+        Step::Resolution { first, second, pivot } => format!("1 {first} {second} {pivot}"),
+        Step::Reduction { clause, literal } => format!("2 {clause} 0 {literal}"),
+        Step::Fork { clause, left, right } => format!("3 {clause} {left} {right}"),
+    }
 }
 
 /// The formulas of 000 and 002, with refutations of the false ones found.

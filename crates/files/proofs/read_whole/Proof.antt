@@ -4,10 +4,10 @@ use Prim.Native.Nat.{_≤_, _-_}
 use native.Mathlib.Omega.{arith}
 use borrow.Author.Needs.{needs}
 use lib.ListN.{length}
-use Rattle.kefthrun.proofs.read_whole.Statement.{statement}
-use Rattle.kefthrun.proofs.read_whole.Tie as tie
-use Rattle.kefthrun.proofs.read_whole.Reads as reads
-use Rattle.kefthrun.proofs.read_whole.Lts as lts
+use Rattle.files.proofs.read_whole.Statement.{statement}
+use Rattle.files.proofs.read_whole.Tie as tie
+use Rattle.files.proofs.read_whole.Reads as reads
+use Rattle.files.proofs.read_whole.Lts as lts
 use Rattle.io.proofs.count.Reads as count-reads
 use Rattle.libc.proofs.read.Reads as read-reads
 
