@@ -1,0 +1,2 @@
+-- The theorem, under the name of specs/Statements/
+pub mod Refutation

@@ -1,0 +1,2 @@
+-- What is claimed of a load and the calls behind it
+pub mod Refutation
