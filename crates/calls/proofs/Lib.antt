@@ -1,2 +1,3 @@
--- The theorem, under the name of specs/Statements/
+-- The theorems, under the names of specs/Statements/
 pub mod Refutation
+pub mod Reloading
