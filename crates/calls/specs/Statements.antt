@@ -1,0 +1,3 @@
+-- What is claimed of a load and the calls behind it
+pub mod Refutation
+pub mod Reloading
