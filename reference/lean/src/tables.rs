@@ -123,7 +123,11 @@ impl Tables {
         put(&mut lent[0][2 * literals..], added, i16::to_le_bytes);
         let added = &self.ends[clauses..self.counts.clauses];
         put(&mut lent[1][2 * clauses..], added, u16::to_le_bytes);
-        put(&mut lent[2][8 * old..], &self.sets[old..new], u64::to_le_bytes);
+        put(
+            &mut lent[2][8 * old..],
+            &self.sets[old..new],
+            u64::to_le_bytes,
+        );
         lent[3][old..new].copy_from_slice(&self.kinds[old..new]);
         put(lent[4], &self.counts.entries(), u16::to_le_bytes);
     }

@@ -1,0 +1,102 @@
+//! Small false QBFs are refuted by DepQBF, where it is installed, and every
+//! trace is checked: by the reference checker, and by the program that
+//! KEFTHRUN_PROGRAM names, if it is set.
+
+use std::env;
+use std::fs;
+use std::io;
+use std::path::Path;
+use std::process::Command;
+
+use cases::random::Random;
+use checker::check;
+use qrp2steps::convert;
+
+const OPTIONS: [&str; 4] = [
+    "--trace",
+    "--dep-man=simple",
+    "--traditional-qcdcl",
+    "--no-qbce-dynamic",
+];
+
+/// Three pairs of a universal and an existential block; clauses of two or three
+/// existentials and at most one universal.
+fn random_qbf(random: &mut Random) -> String {
+    let universals = random.between(3, 12);
+    let existentials = random.between(8, 40);
+    let mut variables: Vec<usize> = (1..=universals + existentials).collect();
+    random.shuffle(&mut variables);
+    let (universals, existentials) = variables.split_at(universals);
+    let clauses = existentials.len() * random.between(36, 48) / 10;
+    let mut text = format!("p cnf {} {clauses}\n", variables.len());
+    for block in 0..3 {
+        for (letter, all) in [("a", universals), ("e", existentials)] {
+            let named: Vec<String> = all
+                .iter()
+                .skip(block)
+                .step_by(3)
+                .map(usize::to_string)
+                .collect();
+            text += &format!("{letter} {} 0\n", named.join(" "));
+        }
+    }
+    for _ in 0..clauses {
+        let (mut first, mut second) = (existentials.to_vec(), universals.to_vec());
+        random.shuffle(&mut first);
+        random.shuffle(&mut second);
+        first.truncate(random.pick(&[2, 3, 3]));
+        second.truncate(random.pick(&[0, 1, 1]));
+        for variable in first.into_iter().chain(second) {
+            let sign = random.pick(&["", "-"]);
+            text += &format!("{sign}{variable} ");
+        }
+        text += "0\n";
+    }
+    text
+}
+
+/// The trace, or none if DepQBF is not installed.
+fn trace(file: &Path) -> Option<String> {
+    match Command::new("depqbf").args(OPTIONS).arg(file).output() {
+        Ok(output) => Some(String::from_utf8(output.stdout).unwrap()),
+        Err(error) if error.kind() == io::ErrorKind::NotFound => None,
+        Err(error) => panic!("depqbf: {error}"),
+    }
+}
+
+fn printed(program: &str, folder: &Path) -> String {
+    let output = Command::new(program).current_dir(folder).output().unwrap();
+    String::from_utf8(output.stdout).unwrap()
+}
+
+#[test]
+fn traces_of_false_formulas_refute() {
+    let folder = Path::new(env!("CARGO_TARGET_TMPDIR")).join("depqbf");
+    fs::create_dir_all(&folder).unwrap();
+    let program = env::var("KEFTHRUN_PROGRAM").ok();
+    let (mut refuted, mut records) = (0, 0);
+    for index in 0..120 {
+        let qbf = random_qbf(&mut Random::for_case(5, index));
+        let file = folder.join("qbf.qdimacs");
+        fs::write(&file, &qbf).unwrap();
+        let Some(trace) = trace(&file) else {
+            println!("depqbf is not installed: nothing is tested");
+            return;
+        };
+        if !trace.ends_with("r UNSAT\n") {
+            continue;
+        }
+        let converted = convert(&qbf, &trace).unwrap_or_else(|error| panic!("{index}: {error}"));
+        let line = check(converted.formula.as_bytes(), &converted.steps).to_string();
+        assert!(line.starts_with("refuted "), "{index}: {line}");
+        if let Some(program) = &program {
+            fs::write(folder.join("formula.dq"), &converted.formula).unwrap();
+            fs::write(folder.join("steps.bin"), &converted.steps).unwrap();
+            assert_eq!(printed(program, &folder), format!("{line}\n"), "{index}");
+        }
+        refuted += 1;
+        records += converted.steps.len() / 16;
+    }
+    println!("{refuted} traces, {records} records");
+    assert!(refuted > 60, "{refuted}");
+}
