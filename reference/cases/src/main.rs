@@ -1,5 +1,5 @@
-//! `cases --seed S --count N` with `--out FILE`, `--dir DIR` or `--lines FILE`
-//! writes cases; `--only PREFIX` keeps those whose label begins so.
+//! `cases --seed S --count N` with `--out FILE`, `--dir DIR`, `--joined DIR` or
+//! `--lines FILE` writes cases; `--only PREFIX` keeps those whose label begins so.
 
 #![forbid(unsafe_code)]
 
@@ -11,7 +11,7 @@ use std::process::ExitCode;
 use cases::{container, generate};
 
 const USAGE: &str = "usage: cases [--seed S] [--count N] [--only PREFIX] \
-    [--out FILE] [--dir DIR] [--lines FILE]";
+    [--out FILE] [--dir DIR] [--joined DIR] [--lines FILE]";
 
 #[derive(Default)]
 struct Options {
@@ -20,6 +20,7 @@ struct Options {
     only: String,
     out: Option<PathBuf>,
     dir: Option<PathBuf>,
+    joined: Option<PathBuf>,
     lines: Option<PathBuf>,
 }
 
@@ -34,6 +35,7 @@ fn options() -> Option<Options> {
             "--only" => options.only = value,
             "--out" => options.out = Some(value.into()),
             "--dir" => options.dir = Some(value.into()),
+            "--joined" => options.joined = Some(value.into()),
             "--lines" => options.lines = Some(value.into()),
             _ => return None,
         }
@@ -52,6 +54,9 @@ fn write(options: &Options) -> io::Result<usize> {
     file(&options.lines, container::lines(&cases).as_bytes())?;
     if let Some(folder) = options.dir.as_deref() {
         container::write_folders(&cases, Path::new(folder))?;
+    }
+    if let Some(folder) = options.joined.as_deref() {
+        container::write_joined(&cases, Path::new(folder))?;
     }
     Ok(cases.len())
 }

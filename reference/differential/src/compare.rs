@@ -1,18 +1,19 @@
-//! A scenario on a library and on the reference checker, call by call.
+//! A scenario on a library and on a checker that says what is right, call by
+//! call.
 
 use std::fmt;
 
 use checker::driver::Buffers;
 
 use crate::guarded::{Five, Guarded};
-use crate::library::Library;
+use crate::library::{ask, Library};
 use crate::oracle;
 use crate::scenario::{Call, Scenario};
 
 /// Where the two part.
 #[derive(Clone, Debug, PartialEq, Eq)]
 pub enum Difference {
-    /// The answers, the reference's first.
+    /// The answers, the right one first.
     Word(u64, u64),
     /// A buffer and its first different byte.
     Byte(&'static str, usize, u8, u8),
@@ -54,55 +55,62 @@ impl fmt::Display for Difference {
     }
 }
 
-/// Makes all calls on both; the first difference, if there is one.
+/// Makes all calls on the reference checker and on a library; the first
+/// difference, if there is one.
 pub fn compare(scenario: &Scenario, library: &mut impl Library) -> Option<Found> {
+    compare_with(oracle::answer, scenario, library)
+}
+
+/// The same with another checker that says what is right.
+pub fn compare_with(
+    right: impl Fn(&mut Buffers, &Call) -> u64,
+    scenario: &Scenario,
+    library: &mut impl Library,
+) -> Option<Found> {
     let mut wanted = scenario.buffers.clone();
     let mut found = Five::new(&scenario.buffers);
     for (call, each) in scenario.calls.iter().enumerate() {
-        if let Some(difference) = compare_call(each, &mut wanted, &mut found, library) {
+        let difference = answers_differ(right(&mut wanted, each), each, &mut found, library)
+            .or_else(|| bytes_differ(&wanted, &found));
+        if let Some(difference) = difference {
             return Some(Found { call, difference });
         }
     }
     None
 }
 
-fn compare_call(
+/// Makes the call on the library; whether the answer is wrong, or a byte has
+/// changed that is not lent.
+fn answers_differ(
+    right: u64,
     call: &Call,
-    wanted: &mut Buffers,
-    found: &mut Five,
+    buffers: &mut Five,
     library: &mut impl Library,
 ) -> Option<Difference> {
-    let empty = Vec::new();
-    let input = match call {
-        Call::Load(bytes) | Call::Run(bytes) => bytes,
-        _ => &empty,
+    let given = Guarded::new(call.input(), 1);
+    let word = match call {
+        Call::Load(_) => library.load(given.contents(), buffers.lent()),
+        Call::Run(_) => library.run(given.contents(), buffers.lent()),
+        question => ask(library, buffers.shared(), question),
     };
-    let given = Guarded::new(input, 1);
-    let word = match *call {
-        Call::Load(_) => library.load(given.contents(), found.lent()),
-        Call::Run(_) => library.run(given.contents(), found.lent()),
-        Call::Show(clause) => library.show(found.shared(), clause),
-        Call::Clause(clause) => library.clause(found.shared(), clause),
-        Call::Variable(variable) => library.variable(found.shared(), variable),
-    };
-    let answer = oracle::answer(wanted, call);
-    if answer != word {
-        return Some(Difference::Word(answer, word));
+    if right != word {
+        return Some(Difference::Word(right, word));
     }
-    if given.contents() != input.as_slice() {
+    if given.contents() != call.input() {
         return Some(Difference::Input);
     }
-    let guards = NAMES.iter().zip(&found.0).chain([(&"input", &given)]);
-    for (name, guarded) in guards {
-        if let Some(place) = guarded.broken() {
-            return Some(Difference::Guard(name, place));
-        }
-    }
-    bytes_differ(wanted, found)
+    let guards = NAMES.iter().zip(&buffers.0).chain([(&"input", &given)]);
+    let mut broken = guards.filter_map(|(name, guarded)| Some((name, guarded.broken()?)));
+    broken
+        .next()
+        .map(|(name, place)| Difference::Guard(name, place))
 }
 
 fn bytes_differ(wanted: &Buffers, found: &Five) -> Option<Difference> {
     for (name, (wanted, found)) in NAMES.iter().zip(wanted.0.iter().zip(&found.0)) {
+        if wanted == found.contents() {
+            continue;
+        }
         let mut pairs = wanted.iter().zip(found.contents());
         if let Some(place) = pairs.position(|(wanted, found)| wanted != found) {
             let (wanted, found) = (wanted[place], found.contents()[place]);

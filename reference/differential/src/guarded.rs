@@ -23,8 +23,9 @@ impl Guarded {
     pub fn new(contents: &[u8], shift: usize) -> Guarded {
         let start = GUARD + shift;
         let size = start + contents.len() + GUARD;
-        let mut bytes: Vec<u8> = (0..size).map(guard).collect();
-        bytes[start..start + contents.len()].copy_from_slice(contents);
+        let mut bytes: Vec<u8> = (0..start).map(guard).collect();
+        bytes.extend(contents);
+        bytes.extend((bytes.len()..size).map(guard));
         Guarded {
             bytes,
             start,
@@ -42,8 +43,7 @@ impl Guarded {
 
     /// The first guard byte that is changed, counted from the contents' start.
     pub fn broken(&self) -> Option<isize> {
-        let inside = self.start..self.start + self.length;
-        let mut places = (0..self.bytes.len()).filter(|place| !inside.contains(place));
+        let mut places = (0..self.start).chain(self.start + self.length..self.bytes.len());
         let place = places.find(|&place| self.bytes[place] != guard(place))?;
         Some(place as isize - self.start as isize)
     }

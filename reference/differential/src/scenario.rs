@@ -67,6 +67,14 @@ impl Call {
         }
     }
 
+    /// The text or the records; nothing for a question.
+    pub fn input(&self) -> &[u8] {
+        match self {
+            Call::Load(bytes) | Call::Run(bytes) => bytes,
+            _ => &[],
+        }
+    }
+
     /// The call in short, for people.
     pub fn short(&self) -> String {
         match self {

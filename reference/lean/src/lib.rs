@@ -55,10 +55,10 @@ pub fn load(text: &[u8], mut lent: Lent) -> u64 {
 
 /// Takes a list of records.
 pub fn run(records: &[u8], mut lent: Lent) -> u64 {
-    let mut tables = match Tables::read(&shared(&lent)) {
-        Ok(tables) => tables,
-        Err(number) => return word(2, 0, number),
-    };
+    let mut tables = Tables::zero();
+    if let Err(number) = tables.read(&shared(&lent)) {
+        return word(2, 0, number);
+    }
     let before = tables.counts;
     let outcome = steps::run(records, &mut tables);
     tables.write_added(&before, &mut lent);
@@ -87,10 +87,10 @@ pub fn clause(lent: Shared, clause: u32) -> u64 {
 
 /// Kind and number of universals in the set of a variable.
 pub fn variable(lent: Shared, variable: u32) -> u64 {
-    let tables = match Tables::read(&lent) {
-        Ok(tables) => tables,
-        Err(number) => return word(1, number, 0),
-    };
+    let mut tables = Tables::zero();
+    if let Err(number) = tables.read(&lent) {
+        return word(1, number, 0);
+    }
     let index = variable.wrapping_sub(1) as usize;
     if index >= tables.counts.variables {
         return word(1, 22, 0);
@@ -100,7 +100,9 @@ pub fn variable(lent: Shared, variable: u32) -> u64 {
 }
 
 fn stretch(lent: Shared, clause: u32) -> Result<(usize, usize), u64> {
-    Tables::read(&lent)?.stretch(clause).ok_or(21)
+    let mut tables = Tables::zero();
+    tables.read(&lent)?;
+    tables.stretch(clause).ok_or(21)
 }
 
 fn shared<'a>(lent: &'a Lent) -> Shared<'a> {

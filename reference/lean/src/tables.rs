@@ -88,19 +88,18 @@ impl Tables {
         }
     }
 
-    /// Well-formed tables, or 1, or 2.
-    pub fn read(lent: &Shared) -> Result<Tables, u64> {
+    /// Takes well-formed tables, or tells 1 or 2.
+    pub fn read(&mut self, lent: &Shared) -> Result<(), u64> {
         if too_short(lent) {
             return Err(1);
         }
-        let mut tables = Tables::zero();
-        take(&mut tables.literals, lent[0], i16::from_le_bytes);
-        take(&mut tables.ends, lent[1], u16::from_le_bytes);
-        take(&mut tables.sets, lent[2], u64::from_le_bytes);
-        tables.kinds.copy_from_slice(&lent[3][..VARIABLES]);
-        tables.counts = Counts::of(lent[4]);
-        if tables.well_formed() {
-            Ok(tables)
+        take(&mut self.literals, lent[0], i16::from_le_bytes);
+        take(&mut self.ends, lent[1], u16::from_le_bytes);
+        take(&mut self.sets, lent[2], u64::from_le_bytes);
+        self.kinds.copy_from_slice(&lent[3][..VARIABLES]);
+        self.counts = Counts::of(lent[4]);
+        if self.well_formed() {
+            Ok(())
         } else {
             Err(2)
         }
