@@ -5,6 +5,7 @@ use std::collections::BTreeMap;
 
 use checker::clause::{without, Clause, Literal};
 use checker::records::{encode, Step as Record};
+use checker::refusal::Number;
 use checker::state::{Kind, State};
 
 use crate::qdimacs;
@@ -20,11 +21,8 @@ pub struct Converted {
 pub fn convert(qdimacs: &str, trace: &str) -> Result<Converted, String> {
     let formula = qdimacs::read(qdimacs)?.text();
     let state = State::load(formula.as_bytes()).map_err(|refusal| {
-        format!(
-            "line {} of the formula: refusal {}",
-            refusal.line,
-            refusal.number.value()
-        )
+        let (line, number) = (refusal.line, refusal.number.value());
+        format!("line {line} of the formula is refused with {number}")
     })?;
     let mut converter = Converter {
         state,
@@ -82,7 +80,10 @@ impl Converter {
     fn take(&mut self, record: Record) -> Result<u32, String> {
         let bytes = encode(record);
         let taken = self.state.step(&bytes);
-        taken.map_err(|number| format!("refusal {}", number.value()))?;
+        taken.map_err(|number| match number {
+            Number::NoRoom => "over 2,048 clauses or 8,192 literals".into(),
+            other => format!("refused with {}", other.value()),
+        })?;
         self.records.extend(bytes);
         Ok(self.state.clauses().len() as u32)
     }

@@ -1,4 +1,4 @@
-//! Small false QBFs are refuted by DepQBF, where it is installed, and every
+//! Small false QBFs, random ones and a family, are refuted by DepQBF, where it is installed, and every
 //! trace is checked: by the reference checker, and by the program that
 //! KEFTHRUN_PROGRAM names, if it is set.
 
@@ -55,6 +55,37 @@ fn random_qbf(random: &mut Random) -> String {
     text
 }
 
+/// Formula t of the family of Kleine Büning, Karpinski and Flögel: the variables
+/// are y(0), then y(i), y'(i) and the universal x(i) for each i, then the z(i).
+fn kleine_buening(t: i32) -> String {
+    let (y, x, z) = (
+        |i: i32| 3 * i - 1,
+        |i: i32| 3 * i + 1,
+        |i: i32| 3 * t + 1 + i,
+    );
+    let mut text = format!("p cnf {} {}\ne 1 2 3 0\na 4 0\n", 4 * t + 1, 4 * t + 2);
+    for i in 2..=t {
+        text += &format!("e {} {} 0\na {} 0\n", y(i), y(i) + 1, x(i));
+    }
+    let all = |sign: &str| -> String { (1..=t).map(|i| format!("{sign}{} ", z(i))).collect() };
+    text += &format!("e {}0\n-1 0\n1 -2 -3 0\n", all(""));
+    for i in 1..=t {
+        let next = match i < t {
+            true => format!("-{} -{} ", y(i + 1), y(i + 1) + 1),
+            false => all("-"),
+        };
+        text += &format!(
+            "{} -{} {next}0\n{} {} {next}0\n",
+            y(i),
+            x(i),
+            y(i) + 1,
+            x(i)
+        );
+        text += &format!("{} {} 0\n-{} {} 0\n", x(i), z(i), x(i), z(i));
+    }
+    text
+}
+
 /// The trace, or none if DepQBF is not installed.
 fn trace(file: &Path) -> Option<String> {
     match Command::new("depqbf").args(OPTIONS).arg(file).output() {
@@ -75,8 +106,9 @@ fn traces_of_false_formulas_refute() {
     fs::create_dir_all(&folder).unwrap();
     let program = env::var("KEFTHRUN_PROGRAM").ok();
     let (mut refuted, mut records) = (0, 0);
-    for index in 0..120 {
-        let qbf = random_qbf(&mut Random::for_case(5, index));
+    let family = (1..=6).map(kleine_buening);
+    let random = (0..120).map(|index| random_qbf(&mut Random::for_case(5, index)));
+    for (index, qbf) in family.chain(random).enumerate() {
         let file = folder.join("qbf.qdimacs");
         fs::write(&file, &qbf).unwrap();
         let Some(trace) = trace(&file) else {
@@ -84,6 +116,7 @@ fn traces_of_false_formulas_refute() {
             return;
         };
         if !trace.ends_with("r UNSAT\n") {
+            assert!(index >= 6, "the family is false");
             continue;
         }
         let converted = convert(&qbf, &trace).unwrap_or_else(|error| panic!("{index}: {error}"));

@@ -1,20 +1,22 @@
-//! A trace of DepQBF that is stored here, and traces that are wrong.
+//! The stored example of a trace, and traces that are wrong.
 
 use checker::check;
 use qrp2steps::convert;
 
-const FORMULA: &str = include_str!("data/small.qdimacs");
-const TRACE: &str = include_str!("data/small.qrp");
+macro_rules! example {
+    ($include:ident, $file:literal) => {
+        $include!(concat!("../../../examples/depqbf/", $file))
+    };
+}
 
 #[test]
-fn a_stored_trace_refutes() {
-    let converted = convert(FORMULA, TRACE).unwrap();
-    let verdict = check(converted.formula.as_bytes(), &converted.steps);
-    let records = converted.steps.len() / 16;
-    assert!(records > 20, "{records}");
-    assert!(verdict
-        .to_string()
-        .starts_with(&format!("refuted {records} ")));
+fn the_example_is_what_its_trace_gives() {
+    let qdimacs = example!(include_str, "formula.qdimacs");
+    let converted = convert(qdimacs, example!(include_str, "trace.qrp")).unwrap();
+    assert_eq!(converted.formula, example!(include_str, "formula.dq"));
+    assert_eq!(converted.steps, example!(include_bytes, "steps.bin"));
+    let line = check(converted.formula.as_bytes(), &converted.steps).to_string();
+    assert_eq!(line + "\n", example!(include_str, "expected"));
 }
 
 const TINY: &str = "p cnf 4 3\na 1 0\ne 2 0\na 3 0\ne 4 0\n1 2 0\n-2 -3 0\n2 3 4 0\n";
@@ -55,8 +57,8 @@ fn wrong_traces_are_told() {
         ("5 1 0 1 2 0\nr UNSAT", "no empty clause"),
         ("5 0 1 3 0\nr UNSAT", "step 5: no single pivot"),
         ("5 0 1 6 0\nr UNSAT", "step 6 is used before it is there"),
-        ("5 0 3 0\nr UNSAT", "step 5: refusal 27"),
-        ("5 0 1 0\nr UNSAT", "step 5: refusal 27"),
+        ("5 0 3 0\nr UNSAT", "step 5: refused with 27"),
+        ("5 0 1 0\nr UNSAT", "step 5: refused with 27"),
         (
             "5 -3 0 2 0\n6 0 5 0\nr UNSAT",
             "step 5: another clause follows",
