@@ -16,12 +16,14 @@ use crate::oracle;
 use crate::program::Program;
 use crate::scenario::Scenario;
 
-const USAGE: &str = "usage: [--seed S] [--count N] [--jobs J] [--program FILE] [--failures DIR]
+const USAGE: &str =
+    "usage: [--seed S] [--first I] [--count N] [--jobs J] [--program FILE] [--failures DIR]
        --replay FILE";
 
 #[derive(Clone)]
 struct Options {
     seed: u64,
+    first: u64,
     count: u64,
     jobs: u64,
     program: Option<PathBuf>,
@@ -32,6 +34,7 @@ struct Options {
 fn options() -> Option<Options> {
     let mut options = Options {
         seed: 1,
+        first: 0,
         count: 5_000,
         jobs: 1,
         program: None,
@@ -43,6 +46,7 @@ fn options() -> Option<Options> {
         let value = arguments.next()?;
         match name.as_str() {
             "--seed" => options.seed = value.parse().ok()?,
+            "--first" => options.first = value.parse().ok()?,
             "--count" => options.count = value.parse().ok()?,
             "--jobs" => options.jobs = value.parse().ok()?,
             "--program" => options.program = Some(value.into()),
@@ -104,7 +108,9 @@ fn compare_all<L: Library + Send + Copy>(options: &Options, library: L) -> io::R
     Ok(all.failures)
 }
 
-/// Every so many scenarios from the job's number on.
+/// Every so many scenarios from the job's number on. While it runs, the job's
+/// folder tells in `now` which one it is at: if the library crashes, `--first`
+/// and `--count 1` repeat it.
 fn job<L: Library>(
     options: &Options,
     scenarios: &Scenarios,
@@ -112,12 +118,16 @@ fn job<L: Library>(
     mut library: L,
 ) -> io::Result<Tally> {
     let folder = options.failures.join(format!("job{number}"));
+    fs::create_dir_all(&folder)?;
     let program = match &options.program {
-        Some(path) => Some(Program::new(path, folder)?),
+        Some(path) => Some(Program::new(path, &folder)?),
         None => None,
     };
     let mut tally = Tally::default();
-    for index in (number..options.count).step_by(options.jobs as usize) {
+    let indices = options.first + number..options.first + options.count;
+    for index in indices.step_by(options.jobs as usize) {
+        let at = format!("--seed {} --first {index} --count 1\n", options.seed);
+        fs::write(folder.join("now"), at)?;
         let scenario = scenarios.scenario(index);
         tally.calls += scenario.calls.len();
         if let Some(found) = compare(&scenario, &mut library) {
@@ -131,6 +141,7 @@ fn job<L: Library>(
             tally.failures += line(program, case, &options.failures.join(name))?;
         }
     }
+    fs::remove_dir_all(folder)?;
     Ok(tally)
 }
 
@@ -152,7 +163,6 @@ fn line(program: &Program, case: Case, folder: &Path) -> io::Result<usize> {
 fn keep(scenario: &Scenario, found: &Found, file: &Path) -> io::Result<()> {
     let mut cut = scenario.clone();
     cut.calls.truncate(found.call + 1);
-    fs::create_dir_all(file.parent().unwrap_or(Path::new(".")))?;
     fs::write(file, cut.to_file())?;
     let call = scenario.calls[found.call].short();
     let (label, difference) = (&scenario.label, &found.difference);

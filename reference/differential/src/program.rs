@@ -14,11 +14,10 @@ pub struct Program {
 }
 
 impl Program {
-    pub fn new(path: &Path, folder: PathBuf) -> io::Result<Program> {
-        fs::create_dir_all(&folder)?;
+    pub fn new(path: &Path, folder: &Path) -> io::Result<Program> {
         Ok(Program {
             path: path.canonicalize()?,
-            folder,
+            folder: folder.into(),
         })
     }
 

@@ -53,7 +53,7 @@ fn a_wrong_line_is_found() {
     let script = folder.join("program");
     fs::write(&script, "#!/bin/sh\necho open 0\n").unwrap();
     fs::set_permissions(&script, fs::Permissions::from_mode(0o755)).unwrap();
-    let program = Program::new(&script, folder).unwrap();
+    let program = Program::new(&script, &folder).unwrap();
     let mut right = 0;
     for case in cases::fixed().iter().take(200) {
         let difference = program.difference(case).unwrap();
