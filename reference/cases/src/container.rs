@@ -5,6 +5,8 @@
 //! is its length and its bytes. Every number is unsigned, 32 bits,
 //! little-endian.
 //!
+//! Joined, each case is one file: the text, a 0 byte and the records.
+//!
 //! A folder holds one folder per case, numbered from 00001, each with
 //! `formula.dq`, `steps.bin`, `expected` (the line with its line feed) and
 //! `label`.
@@ -88,6 +90,16 @@ pub fn write_folders(cases: &[Case], folder: &Path) -> io::Result<()> {
         fs::write(place.join("steps.bin"), &case.records)?;
         fs::write(place.join("expected"), format!("{}\n", case.expected))?;
         fs::write(place.join("label"), format!("{}\n", case.label))?;
+    }
+    Ok(())
+}
+
+/// Writes a file for each case: the text, a 0 byte and the records.
+pub fn write_joined(cases: &[Case], folder: &Path) -> io::Result<()> {
+    fs::create_dir_all(folder)?;
+    for (number, case) in (1..).zip(cases) {
+        let bytes = [&case.text[..], &[0], &case.records].concat();
+        fs::write(folder.join(format!("{number:05}")), bytes)?;
     }
     Ok(())
 }

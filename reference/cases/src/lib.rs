@@ -24,6 +24,12 @@ pub fn fixed() -> Vec<Case> {
     [tabled::cases(), shaped::cases(), published::cases()].concat()
 }
 
+/// The cases of the program `vectors`: the fixed ones, and every step on the
+/// formula of 000, Theorem 2.
+pub fn vectors() -> Vec<Case> {
+    [fixed(), published::theorem_steps()].concat()
+}
+
 /// The fixed cases, then seeded ones, `count` in all; without a count, the
 /// fixed cases and a thousand seeded ones.
 pub fn generate(seed: u64, count: Option<usize>) -> Vec<Case> {

@@ -1,5 +1,5 @@
-//! `cases --seed S --count N` with `--out FILE`, `--dir DIR` or `--lines FILE`
-//! writes cases; `--only PREFIX` keeps those whose label begins so.
+//! `cases --seed S --count N` with `--out FILE`, `--dir DIR`, `--joined DIR` or
+//! `--lines FILE` writes cases; `--only PREFIX` keeps those whose label begins so.
 //! `cases --vectors DIR` writes the data and the stdout of the program `vectors`.
 
 #![forbid(unsafe_code)]
@@ -9,10 +9,10 @@ use std::io;
 use std::path::{Path, PathBuf};
 use std::process::ExitCode;
 
-use cases::{container, fixed, generate, packed};
+use cases::{container, generate, packed, vectors};
 
 const USAGE: &str = "usage: cases [--seed S] [--count N] [--only PREFIX] \
-    [--out FILE] [--dir DIR] [--lines FILE] [--vectors DIR]";
+    [--out FILE] [--dir DIR] [--joined DIR] [--lines FILE] [--vectors DIR]";
 
 #[derive(Default)]
 struct Options {
@@ -21,6 +21,7 @@ struct Options {
     only: String,
     out: Option<PathBuf>,
     dir: Option<PathBuf>,
+    joined: Option<PathBuf>,
     lines: Option<PathBuf>,
     vectors: Option<PathBuf>,
 }
@@ -36,6 +37,7 @@ fn options() -> Option<Options> {
             "--only" => options.only = value,
             "--out" => options.out = Some(value.into()),
             "--dir" => options.dir = Some(value.into()),
+            "--joined" => options.joined = Some(value.into()),
             "--lines" => options.lines = Some(value.into()),
             "--vectors" => options.vectors = Some(value.into()),
             _ => return None,
@@ -44,9 +46,9 @@ fn options() -> Option<Options> {
     Some(options)
 }
 
-/// The fixed cases as the program `vectors` has them in its folder.
+/// The cases of the program `vectors`, as it has them in its folder.
 fn write_vectors(folder: &Path) -> io::Result<usize> {
-    let cases = fixed();
+    let cases = vectors();
     fs::create_dir_all(folder.join("data"))?;
     fs::write(folder.join("data/cases.bin"), packed::pack(&cases))?;
     fs::write(folder.join("stdout"), packed::printed(&cases))?;
@@ -67,6 +69,9 @@ fn write(options: &Options) -> io::Result<usize> {
     file(&options.lines, container::lines(&cases).as_bytes())?;
     if let Some(folder) = options.dir.as_deref() {
         container::write_folders(&cases, Path::new(folder))?;
+    }
+    if let Some(folder) = options.joined.as_deref() {
+        container::write_joined(&cases, Path::new(folder))?;
     }
     Ok(cases.len())
 }

@@ -19,7 +19,10 @@ fn number(value: usize) -> [u8; 2] {
 /// How often the first `period` bytes stand at the front.
 fn times(bytes: &[u8], period: usize) -> usize {
     let unit = &bytes[..period];
-    bytes.chunks_exact(period).take_while(|chunk| *chunk == unit).count()
+    bytes
+        .chunks_exact(period)
+        .take_while(|chunk| *chunk == unit)
+        .count()
 }
 
 /// The period at the front that saves most, with its times.

@@ -15,22 +15,30 @@ use crate::random::Random;
 
 /// All cases of this module.
 pub fn cases() -> Vec<Case> {
-    [published(), theorem_steps(), bad_examples()].concat()
+    [published(), bad_examples()].concat()
 }
 
 /// On the formula of 000, Theorem 2, every resolution on complementary literals,
 /// every reduction of a literal and every fork into two parts: all are refused.
-fn theorem_steps() -> Vec<Case> {
+pub fn theorem_steps() -> Vec<Case> {
     let start = State::load(THEOREM).expect("the formula is within the limits");
     let clauses: Vec<Vec<i32>> = (1..=start.counts().clauses)
         .map(|number| start.clause(number.into()).expect("in use"))
-        .map(|clause| clause.iter().map(|literal| literal.number() as i32).collect())
+        .map(|clause| {
+            clause
+                .iter()
+                .map(|literal| literal.number() as i32)
+                .collect()
+        })
         .collect();
     let numbers = || (1..).zip(&clauses);
     let mut steps = Vec::new();
     for (first, clause) in numbers() {
         for &literal in clause {
-            steps.push(Step::Reduction { clause: first, literal });
+            steps.push(Step::Reduction {
+                clause: first,
+                literal,
+            });
             let others = numbers().filter(|(_, other)| other.contains(&-literal));
             steps.extend(others.map(|(second, _)| Step::Resolution {
                 first,
@@ -55,9 +63,17 @@ fn theorem_steps() -> Vec<Case> {
 /// A step in words, as the fixed tables write it.
 fn words(step: Step) -> String {
     match step {
-        Step::Resolution { first, second, pivot } => format!("1 {first} {second} {pivot}"),
+        Step::Resolution {
+            first,
+            second,
+            pivot,
+        } => format!("1 {first} {second} {pivot}"),
         Step::Reduction { clause, literal } => format!("2 {clause} 0 {literal}"),
-        Step::Fork { clause, left, right } => format!("3 {clause} {left} {right}"),
+        Step::Fork {
+            clause,
+            left,
+            right,
+        } => format!("3 {clause} {left} {right}"),
     }
 }
 

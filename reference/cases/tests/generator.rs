@@ -128,3 +128,20 @@ fn the_families_of_000_are_refuted() {
     }
     assert_eq!(count, 22);
 }
+
+#[test]
+fn no_step_applies_to_theorem_2() {
+    let steps = cases::published::theorem_steps();
+    assert_eq!(steps.len(), 1000);
+    assert!(steps.iter().all(|case| case.expected.starts_with("bad 1 ")));
+}
+
+/// `cases --vectors crates/vectors` makes the two files again.
+#[test]
+fn the_vectors_are_up_to_date() {
+    let cases = cases::vectors();
+    let folder = concat!(env!("CARGO_MANIFEST_DIR"), "/../../crates/vectors");
+    let read = |name: &str| std::fs::read(format!("{folder}/{name}")).expect(name);
+    assert!(read("data/cases.bin") == cases::packed::pack(&cases));
+    assert!(read("stdout") == cases::packed::printed(&cases).as_bytes());
+}

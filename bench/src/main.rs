@@ -1,0 +1,111 @@
+//! `bench` prints the tables of docs/PERFORMANCE.md. It fails if the cost of a
+//! run does not grow linearly with its records.
+
+mod stack;
+mod time;
+mod work;
+
+use std::process::ExitCode;
+use std::time::Duration;
+
+use archive::Archive;
+use differential::library::Lean;
+
+use work::{List, Work};
+
+const ROUNDS: usize = 301;
+
+/// The whole list may take so many times its half; 2 is linear, 4 quadratic.
+const LINEAR: f64 = 2.5;
+
+fn micros(time: Duration) -> f64 {
+    time.as_secs_f64() * 1e6
+}
+
+fn compared(work: &Work) {
+    let times = time::all(work, ROUNDS);
+    let archive = micros(times.archive);
+    println!(
+        "| {} | {} | {archive:.1} | {:.1} | {:.1} | {:.2} | {:.2} |",
+        work.name,
+        work.size,
+        micros(times.lean),
+        micros(times.reference),
+        archive / micros(times.lean),
+        archive / micros(times.reference),
+    );
+}
+
+fn comparisons() {
+    println!("| call | bytes or records | library, µs | lean, µs | reference, µs | to lean | to reference |");
+    println!("|---|---|---|---|---|---|---|");
+    let lists = work::lists();
+    for work in work::loads() {
+        compared(&work);
+    }
+    for list in &lists {
+        compared(&list.run(list.most));
+    }
+    for work in lists[0].single() {
+        compared(&work);
+    }
+}
+
+/// Prints the time of a run of no record, of an eighth, .. of a list; whether it
+/// is linear.
+fn growth(list: &List) -> bool {
+    let records = [0, list.most / 8, list.most / 4, list.most / 2, list.most];
+    let works = records.map(|records| list.run(records));
+    let times = time::each(&mut Archive, &works, ROUNDS);
+    print!("| {} |", list.name);
+    for (work, time) in works.iter().zip(&times) {
+        print!(" {}: {:.1} |", work.size, micros(*time));
+    }
+    let ratio = micros(times[4]) / micros(times[3]);
+    println!(" {ratio:.2} |");
+    ratio <= LINEAR
+}
+
+fn growths() -> bool {
+    println!("\n| list | none: µs | an eighth: µs | a quarter: µs | half: µs | whole: µs | whole to half |");
+    println!("|---|---|---|---|---|---|---|");
+    let linear: Vec<bool> = work::lists().iter().map(growth).collect();
+    linear.iter().all(|&each| each)
+}
+
+fn stacks() {
+    println!("\n| call | library, bytes of stack | lean, bytes of stack |");
+    println!("|---|---|---|");
+    let loads = work::loads();
+    let lists = work::lists();
+    let runs: Vec<Work> = lists.iter().map(|list| list.run(list.most)).collect();
+    let [_, show] = lists[0].single();
+    let shows = [show];
+    for (name, works) in [
+        ("load", &loads[..]),
+        ("run", &runs[..]),
+        ("show", &shows[..]),
+    ] {
+        let most =
+            |library: fn(&Work)| works.iter().map(|work| stack::used(|| library(work))).max();
+        let archive = most(|work| drop(time::call(&mut Archive, work)));
+        let lean = most(|work| drop(time::call(&mut Lean, work)));
+        println!(
+            "| {name} | {} | {} |",
+            archive.unwrap_or(0),
+            lean.unwrap_or(0)
+        );
+    }
+}
+
+fn main() -> ExitCode {
+    comparisons();
+    let linear = growths();
+    stacks();
+    if linear {
+        ExitCode::SUCCESS
+    } else {
+        eprintln!("the cost of a run is not linear in its records");
+        ExitCode::FAILURE
+    }
+}

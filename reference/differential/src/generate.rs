@@ -1,0 +1,174 @@
+//! Seeded scenarios: texts with records over used buffers, well-formed tables,
+//! nearly well-formed ones, noise, and buffers that are too short.
+
+use cases::case::Case;
+use cases::lent::{damaged, well_formed, LentCase};
+use cases::random::Random;
+use cases::seeded;
+use checker::driver::{Buffers, SIZES};
+
+use crate::scenario::{Call, Scenario};
+
+/// The scenarios of a seed, the fixed cases first.
+pub struct Scenarios {
+    seed: u64,
+    fixed: Vec<Case>,
+}
+
+impl Scenarios {
+    pub fn new(seed: u64) -> Scenarios {
+        let fixed = cases::fixed();
+        Scenarios { seed, fixed }
+    }
+
+    /// The text and the records behind a scenario, if it has them.
+    pub fn case(&self, index: u64) -> Option<Case> {
+        if let Some(case) = self.fixed.get(index as usize) {
+            return Some(case.clone());
+        }
+        let texts = Random::for_case(self.seed ^ 1, index).chance(60);
+        texts.then(|| seeded::case(self.seed, index))
+    }
+
+    pub fn scenario(&self, index: u64) -> Scenario {
+        let random = &mut Random::for_case(!self.seed, index);
+        let (label, buffers, calls) = match self.case(index) {
+            Some(case) => text_and_records(case, random),
+            None => tables(self.seed, index, random),
+        };
+        Scenario {
+            label: format!("seed {} number {index}: {label}", self.seed),
+            buffers,
+            calls,
+        }
+    }
+}
+
+type Parts = (String, Buffers, Vec<Call>);
+
+/// Loads the text into used buffers and runs the records, at once or in two
+/// lists; sometimes all once more.
+fn text_and_records(case: Case, random: &mut Random) -> Parts {
+    let mut buffers = Buffers::zero();
+    if random.chance(50) {
+        noise(&mut buffers, random);
+    }
+    lengthen(&mut buffers, random);
+    if random.chance(6) {
+        shorten(&mut buffers, random);
+    }
+    let mut calls = Vec::new();
+    for _ in 0..random.pick(&[1, 1, 1, 1, 2]) {
+        calls.push(Call::Load(case.text.clone()));
+        ask(&mut calls, random);
+        let records = case.records.len() / 16;
+        let cut = random.pick(&[0, 0, 16 * random.clone().below(records + 1)]);
+        let (first, rest) = case.records.split_at(cut);
+        if cut > 0 {
+            calls.push(Call::Run(first.to_vec()));
+            ask(&mut calls, random);
+        }
+        calls.push(Call::Run(rest.to_vec()));
+        ask(&mut calls, random);
+    }
+    (case.label, buffers, calls)
+}
+
+/// Runs and questions on tables that no load has made.
+fn tables(seed: u64, index: u64, random: &mut Random) -> Parts {
+    let choice = random.below(10);
+    let (label, LentCase { lent, records }) = match choice {
+        0..=3 => ("well-formed tables", well_formed(seed, index)),
+        _ => ("damaged tables", damaged(seed, index)),
+    };
+    let [literals, ends, sets, kinds] = lent.tables.bytes();
+    let mut buffers = Buffers([literals, ends, sets, kinds, lent.counts.bytes()]);
+    lengthen(&mut buffers, random);
+    let label = match choice {
+        7 => {
+            flip(&mut buffers, random);
+            "bits flipped in tables"
+        }
+        8 => {
+            shorten(&mut buffers, random);
+            "short tables"
+        }
+        9 => {
+            noise(&mut buffers, random);
+            "noise for tables"
+        }
+        _ => label,
+    };
+    let mut calls = Vec::new();
+    ask(&mut calls, random);
+    for _ in 0..random.between(1, 2) {
+        calls.push(Call::Run(records.clone()));
+        ask(&mut calls, random);
+    }
+    (label.into(), buffers, calls)
+}
+
+/// A few questions, mostly about numbers that are in use.
+fn ask(calls: &mut Vec<Call>, random: &mut Random) {
+    let numbers = [
+        0,
+        1,
+        2,
+        511,
+        512,
+        513,
+        2_048,
+        2_049,
+        65_536,
+        65_537,
+        u32::MAX,
+    ];
+    for _ in 0..random.between(1, 3) {
+        let small = random.below(60) as u32;
+        let number = random.pick(&[small, small, small, random.clone().pick(&numbers)]);
+        calls.push(match random.below(3) {
+            0 => Call::Show(number),
+            1 => Call::Clause(number),
+            _ => Call::Variable(number),
+        });
+    }
+}
+
+/// Fills some buffers with other bytes.
+fn noise(buffers: &mut Buffers, random: &mut Random) {
+    for buffer in &mut buffers.0 {
+        if random.chance(70) {
+            let mask = random.pick(&[0x01, 0x03, 0xFF]);
+            buffer.fill_with(|| random.word() as u8 & mask);
+        }
+    }
+}
+
+/// Makes some buffers longer than they need be.
+fn lengthen(buffers: &mut Buffers, random: &mut Random) {
+    for buffer in &mut buffers.0 {
+        if random.chance(50) {
+            let length = random.between(1, 40);
+            buffer.extend((0..length).map(|_| random.word() as u8));
+        }
+    }
+}
+
+/// Cuts one or more buffers below their sizes.
+fn shorten(buffers: &mut Buffers, random: &mut Random) {
+    for _ in 0..random.between(1, 2) {
+        let which = random.below(5);
+        let size = SIZES[which];
+        let below = random.below(size);
+        buffers.0[which].truncate(random.pick(&[0, size / 2, size - 2, size - 1, size - 1, below]));
+    }
+}
+
+/// Flips a few bits, by choice near the front of a buffer.
+fn flip(buffers: &mut Buffers, random: &mut Random) {
+    for _ in 0..random.between(1, 3) {
+        let buffer = &mut buffers.0[random.below(5)];
+        let range = random.pick(&[16, 64, buffer.len()]).min(buffer.len());
+        buffer[random.below(range)] ^= 1 << random.below(8);
+    }
+}

@@ -1,0 +1,64 @@
+//! The scenarios reach every answer of every call, and a program that prints a
+//! wrong line is found.
+
+use std::collections::BTreeSet;
+use std::fs;
+use std::os::unix::fs::PermissionsExt;
+use std::path::Path;
+
+use differential::compare::fields;
+use differential::generate::Scenarios;
+use differential::oracle;
+use differential::program::Program;
+use differential::scenario::Call;
+
+/// Call, tag and, in a refusal, its number.
+fn outcome(call: &Call, word: u64) -> (&'static str, u16, u16) {
+    let [tag, first, second, _] = fields(word);
+    match call {
+        Call::Load(_) => ("load", tag, second),
+        Call::Run(_) => ("run", tag, if tag == 2 { second } else { 0 }),
+        Call::Show(_) => ("show", tag, if tag == 1 { first } else { 0 }),
+        Call::Clause(_) => ("clause", tag, if tag == 1 { first } else { 0 }),
+        Call::Variable(_) => ("variable", tag, if tag == 1 { first } else { 0 }),
+    }
+}
+
+#[test]
+fn scenarios_reach_every_answer() {
+    let scenarios = Scenarios::new(1);
+    let mut found = BTreeSet::new();
+    for index in 0..3_000 {
+        let scenario = scenarios.scenario(index);
+        let mut buffers = scenario.buffers;
+        for call in &scenario.calls {
+            found.insert(outcome(call, oracle::answer(&mut buffers, call)));
+        }
+    }
+    let mut wanted = BTreeSet::from([("load", 0, 0), ("run", 0, 0), ("run", 1, 0)]);
+    wanted.extend([1, 10, 11, 12, 13, 14].map(|number| ("load", 1, number)));
+    let run = [1, 2, 11, 20, 21, 22, 23, 24, 25, 26, 27, 28, 29];
+    wanted.extend(run.map(|number| ("run", 2, number)));
+    for (call, unknown) in [("show", 21), ("clause", 21), ("variable", 22)] {
+        wanted.insert((call, 0, 0));
+        wanted.extend([1, 2, unknown].map(|number| (call, 1, number)));
+    }
+    assert_eq!(found, wanted);
+}
+
+#[test]
+fn a_wrong_line_is_found() {
+    let folder = Path::new(env!("CARGO_TARGET_TMPDIR")).join("line");
+    fs::create_dir_all(&folder).unwrap();
+    let script = folder.join("program");
+    fs::write(&script, "#!/bin/sh\necho open 0\n").unwrap();
+    fs::set_permissions(&script, fs::Permissions::from_mode(0o755)).unwrap();
+    let program = Program::new(&script, &folder).unwrap();
+    let mut right = 0;
+    for case in cases::fixed().iter().take(200) {
+        let difference = program.difference(case).unwrap();
+        assert_eq!(difference.is_none(), case.expected == "open 0");
+        right += usize::from(difference.is_none());
+    }
+    assert!((1..200).contains(&right), "{right}");
+}

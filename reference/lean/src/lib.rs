@@ -1,0 +1,110 @@
+//! The driver's five calls over byte buffers, made to be fast: flat arrays, one
+//! pass over the tables, no allocation. It shares no code with `checker`.
+//!
+//! A call answers a word of four 16-bit fields, the lowest first: a tag and its
+//! values.
+//!
+//! | call | tag 0 | tag 1 | tag 2 |
+//! |---|---|---|---|
+//! | load | accepted | refused: line, number | |
+//! | run | refuted: steps, clause | open: steps | bad: step, number |
+//! | show | place and length in entries | refused: number | |
+//! | clause | length | refused: number | |
+//! | variable | kind, universals | refused: number | |
+
+#![forbid(unsafe_code)]
+
+mod formed;
+mod steps;
+mod tables;
+mod text;
+
+pub use tables::SIZES;
+
+use tables::Tables;
+
+/// The buffers of a call that writes: literals, ends, sets, kinds, state.
+pub type Lent<'a> = [&'a mut [u8]; 5];
+/// The buffers of a call that only reads.
+pub type Shared<'a> = [&'a [u8]; 5];
+
+/// The word of a tag and its values.
+fn word(tag: u64, first: u64, second: u64) -> u64 {
+    tag | first << 16 | second << 32
+}
+
+/// Loads a text into the tables.
+pub fn load(text: &[u8], mut lent: Lent) -> u64 {
+    if tables::too_short(&shared(&lent)) {
+        if let Some(state) = lent[4].get_mut(..SIZES[4]) {
+            state.fill(0);
+        }
+        return word(1, 0, 1);
+    }
+    let mut tables = Tables::zero();
+    let outcome = text::read(text, &mut tables);
+    if outcome.is_err() {
+        tables = Tables::zero();
+    }
+    tables.write(&mut lent);
+    match outcome {
+        Ok(()) => word(0, 0, 0),
+        Err((line, number)) => word(1, line, number),
+    }
+}
+
+/// Takes a list of records.
+pub fn run(records: &[u8], mut lent: Lent) -> u64 {
+    let mut tables = Tables::zero();
+    if let Err(number) = tables.read(&shared(&lent)) {
+        return word(2, 0, number);
+    }
+    let before = tables.counts;
+    let outcome = steps::run(records, &mut tables);
+    tables.write_added(&before, &mut lent);
+    match outcome {
+        Err((step, number)) => word(2, step, number),
+        Ok(()) if tables.counts.empty == 0 => word(1, tables.counts.steps as u64, 0),
+        Ok(()) => word(0, tables.counts.steps as u64, tables.counts.empty as u64),
+    }
+}
+
+/// The stretch of a clause, in entries of the literals.
+pub fn show(lent: Shared, clause: u32) -> u64 {
+    match stretch(lent, clause) {
+        Ok((start, end)) => word(0, start as u64, (end - start) as u64),
+        Err(number) => word(1, number, 0),
+    }
+}
+
+/// The length of a clause.
+pub fn clause(lent: Shared, clause: u32) -> u64 {
+    match stretch(lent, clause) {
+        Ok((start, end)) => word(0, (end - start) as u64, 0),
+        Err(number) => word(1, number, 0),
+    }
+}
+
+/// Kind and number of universals in the set of a variable.
+pub fn variable(lent: Shared, variable: u32) -> u64 {
+    let mut tables = Tables::zero();
+    if let Err(number) = tables.read(&lent) {
+        return word(1, number, 0);
+    }
+    let index = variable.wrapping_sub(1) as usize;
+    if index >= tables.counts.variables {
+        return word(1, 22, 0);
+    }
+    let universals = tables.sets[index].count_ones();
+    word(0, tables.kinds[index].into(), universals.into())
+}
+
+fn stretch(lent: Shared, clause: u32) -> Result<(usize, usize), u64> {
+    let mut tables = Tables::zero();
+    tables.read(&lent)?;
+    tables.stretch(clause).ok_or(21)
+}
+
+fn shared<'a>(lent: &'a Lent) -> Shared<'a> {
+    [&*lent[0], &*lent[1], &*lent[2], &*lent[3], &*lent[4]]
+}
