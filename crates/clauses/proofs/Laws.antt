@@ -1,5 +1,5 @@
 pub mod Clauses
-pub mod Held
+pub mod Places
 pub mod Join
 pub mod Literals
 pub mod Narrowing

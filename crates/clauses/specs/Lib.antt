@@ -1,4 +1,3 @@
-pub mod Held
 pub mod Join
 pub mod Sets
 pub mod Writing

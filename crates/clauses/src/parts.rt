@@ -1,27 +1,38 @@
-// Parts of a held clause: without a literal, and the literals that a mask picks, bit i the one at place i.
-use crate::held;
-use crate::held::Held;
+// Writers of a clause, whole or in part: without a literal, and the literals that a mask picks, bit i the one at place i.
+// Each writes to the front of what it is lent: the tail of the literal table, or a local copy.
 use dqbf::literal;
 ghost use mathlib.Core.Path.{_≡_};
 ghost use mathlib.Core.List.{[], _∷_, _++_};
 ghost use Prim.Native.Nat.{_+_, _<_, _≤_};
 ghost use lib.IntN.{natAbs, negℤ};
 ghost use lib.ListN.{length};
-ghost use Rattle.dqbf.specs.Limits.{widthLimit};
 ghost use Rattle.dqbf.specs.Literal as Literal;
-ghost use Rattle.clauses.specs.Held.{clauseOf};
 ghost use Rattle.clauses.specs.Writing.{Written};
 
-// The clause without a literal, to the front of the tail; the number of its literals.
-pub fn write_without(tail: &mut [i16], clause: Held, literal: i16) -> usize
-    requires { ⌜ length (Literal.without literal (clauseOf clause)) ≤ length (now tail) ⌝ }
-    ensures { λ r. ⌜ Written (Literal.without literal (clauseOf clause)) (now (tail .entry)) (now (tail .exit)) r ⌝ }
+// The clause, to the front of the tail; the number of its literals.
+pub fn write_clause(tail: &mut [i16], clause: &[i16]) -> usize
+    requires { ⌜ length (now clause) ≤ length (now tail) ⌝ }
+    ensures { λ r. ⌜ Written (now (clause .entry)) (now (tail .entry)) (now (tail .exit)) r ⌝ }
 {
-    let n = held::width(clause);
+    let mut count = 0;
+    while count < clause.len() {
+        let l = clause[count];
+        tail[count] = l;
+        count += 1;
+    }
+    count
+}
+
+// The clause without a literal, to the front of the tail; the number of its literals.
+pub fn write_without(tail: &mut [i16], clause: &[i16], literal: i16) -> usize
+    requires { ⌜ length (Literal.without literal (now clause)) ≤ length (now tail) ⌝ }
+    ensures { λ r. ⌜ Written (Literal.without literal (now (clause .entry))) (now (tail .entry)) (now (tail .exit)) r ⌝ }
+{
+    let n = clause.len();
     let mut i = 0;
     let mut count = 0;
     while i < n {
-        let l = clause.literals[i];
+        let l = clause[i];
         i += 1;
         if l != literal {
             tail[count] = l;
@@ -31,29 +42,17 @@ pub fn write_without(tail: &mut [i16], clause: Held, literal: i16) -> usize
     count
 }
 
-// The clause without a literal, by value.
-pub fn held_without(clause: Held, literal: i16) -> Held
-    ensures { λ r. ⌜ clauseOf r ≡ Literal.without literal (clauseOf clause) ⌝ }
-{
-    let mut entries = [0i16; held::WIDTH];
-    let count = write_without(&mut entries, clause, literal);
-    Held {
-        literals: entries,
-        length: count,
-    }
-}
-
 // The literals that a mask picks, to the front of the tail; their number.
-fn write_picked(tail: &mut [i16], clause: Held, mask: u32) -> usize
-    requires { ⌜ length (Literal.pick mask (clauseOf clause)) ≤ length (now tail) ⌝ }
-    ensures { λ r. ⌜ Written (Literal.pick mask (clauseOf clause)) (now (tail .entry)) (now (tail .exit)) r ⌝ }
+fn write_picked(tail: &mut [i16], clause: &[i16], mask: u32) -> usize
+    requires { ⌜ length (Literal.pick mask (now clause)) ≤ length (now tail) ⌝ }
+    ensures { λ r. ⌜ Written (Literal.pick mask (now (clause .entry))) (now (tail .entry)) (now (tail .exit)) r ⌝ }
 {
-    let n = held::width(clause);
+    let n = clause.len();
     let mut i = 0;
     let mut count = 0;
     let mut rest = mask;
     while i < n {
-        let l = clause.literals[i];
+        let l = clause[i];
         i += 1;
         let picked = rest % 2;
         rest = rest / 2;
@@ -66,9 +65,9 @@ fn write_picked(tail: &mut [i16], clause: Held, mask: u32) -> usize
 }
 
 // The literals that a mask picks and a last one behind them, to the front of the tail; their number.
-pub fn write_part(tail: &mut [i16], clause: Held, mask: u32, last: i16) -> usize
-    requires { ⌜ length (Literal.pick mask (clauseOf clause)) < length (now tail) ⌝ }
-    ensures { λ r. ⌜ Written (Literal.pick mask (clauseOf clause) ++ (last ∷ [])) (now (tail .entry)) (now (tail .exit)) r ⌝ }
+pub fn write_part(tail: &mut [i16], clause: &[i16], mask: u32, last: i16) -> usize
+    requires { ⌜ length (Literal.pick mask (now clause)) < length (now tail) ⌝ }
+    ensures { λ r. ⌜ Written (Literal.pick mask (now (clause .entry)) ++ (last ∷ [])) (now (tail .entry)) (now (tail .exit)) r ⌝ }
 {
     let count = write_picked(tail, clause, mask);
     tail[count] = last;
@@ -76,9 +75,9 @@ pub fn write_part(tail: &mut [i16], clause: Held, mask: u32, last: i16) -> usize
 }
 
 // The two clauses of a fork, one behind the other, to the front of the tail: the left part with the new variable, the right part with its negation; the number of their literals.
-pub fn write_fork(tail: &mut [i16], clause: Held, left: u32, right: u32, variable: i16) -> usize
-    requires { ⌜ (length (Literal.pick left (clauseOf clause)) + length (Literal.pick right (clauseOf clause)) + 2 ≤ length (now tail)) × (natAbs variable < 32768) ⌝ }
-    ensures { λ r. ⌜ Written ((Literal.pick left (clauseOf clause) ++ (variable ∷ [])) ++ (Literal.pick right (clauseOf clause) ++ (negℤ variable ∷ [])))
+pub fn write_fork(tail: &mut [i16], clause: &[i16], left: u32, right: u32, variable: i16) -> usize
+    requires { ⌜ (length (Literal.pick left (now clause)) + length (Literal.pick right (now clause)) + 2 ≤ length (now tail)) × (natAbs variable < 32768) ⌝ }
+    ensures { λ r. ⌜ Written ((Literal.pick left (now (clause .entry)) ++ (variable ∷ [])) ++ (Literal.pick right (now (clause .entry)) ++ (negℤ variable ∷ [])))
         (now (tail .entry)) (now (tail .exit)) r ⌝ }
 {
     let left_length = write_part(tail, clause, left, variable);
@@ -92,10 +91,10 @@ pub fn write_fork(tail: &mut [i16], clause: Held, left: u32, right: u32, variabl
 }
 
 // How many literals a mask picks.
-pub fn part_length(clause: Held, mask: u32) -> usize
-    ensures { λ r. ⌜ (r ≡ length (Literal.pick mask (clauseOf clause))) × (r ≤ widthLimit) ⌝ }
+pub fn part_length(clause: &[i16], mask: u32) -> usize
+    ensures { λ r. ⌜ (r ≡ length (Literal.pick mask (now (clause .entry)))) × (r ≤ length (now (clause .entry))) ⌝ }
 {
-    let n = held::width(clause);
+    let n = clause.len();
     let mut i = 0;
     let mut count = 0;
     let mut rest = mask;
@@ -111,10 +110,10 @@ pub fn part_length(clause: Held, mask: u32) -> usize
 }
 
 // Whether two masks together pick every literal and no place beyond.
-pub fn covers(clause: Held, left: u32, right: u32) -> bool
-    ensures { λ r. ⌜ r ≡ Literal.covers left right (clauseOf clause) ⌝ }
+pub fn covers(clause: &[i16], left: u32, right: u32) -> bool
+    ensures { λ r. ⌜ r ≡ Literal.covers left right (now (clause .entry)) ⌝ }
 {
-    let n = held::width(clause);
+    let n = clause.len();
     let mut i = 0;
     let mut a = left;
     let mut b = right;

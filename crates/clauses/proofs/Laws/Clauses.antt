@@ -17,7 +17,7 @@ use Rattle.dqbf.specs.Literal.{Clause, holds, without, pick, covers, clashes}
 use Rattle.dqbf.proofs.Laws.Literals.{same-same, same-not}
 use Rattle.dqbf.proofs.Laws.Signed.{var-kept}
 use Rattle.dqbf.proofs.Laws.Tests.{either, or-left, or-right}
-use Rattle.clauses.proofs.Laws.Held.{list-front}
+use Rattle.clauses.proofs.Laws.Places.{list-front}
 
 module _ (l : ℤ) where
   -- ---- holds

@@ -1,51 +1,66 @@
--- `parts::write_fork` meets its contract.
+-- `parts::write_fork`: the right part behind the left.
+use borrow.Author.Needs.{needs}
 use native.Mathlib.Omega.{arith}
-use borrow.Author.Needs.{needs, sfits-of}
+use borrow.Author.Needs.{sfits-of}
 use lib.ListN.{length-append}
 use mir.Syntax.{w16}
 use mir.Facts.{toZ-ofZ}
 use Rattle.clauses.proofs.Laws.Writing.{written-behind, tail-room}
 use Rattle.clauses.proofs.parts.write_fork.Statement.{statement}
 use Rattle.clauses.proofs.parts.write_fork.Tie as tie
+use Rattle.clauses.proofs.parts.write_fork.Reads as reads
+use Rattle.clauses.proofs.parts.write_fork.Lts as lts
+use Rattle.clauses.proofs.parts.write_part.Reads as write-part-reads
+use Rattle.dqbf.proofs.literal.negated.Reads as negated-reads
 
+-- src/parts.rt:83:9
 write-part-requires : tie.Need-write-part-requires
 write-part-requires c κs = search needs
 
+-- src/parts.rt:85:9
 mul-write-part : tie.Need-mul-write-part
 mul-write-part c =
     let first = simp length-append at (c .before .write-part .ensures .count) in
     search needs
 
+-- src/parts.rt:85:9
 sub-write-part : tie.Need-sub-write-part
 sub-write-part c =
     let first = simp length-append at (c .before .write-part .ensures .count) in
     search needs
 
+-- src/parts.rt:85:9
 part-write-part-start : tie.Need-part-write-part-start
 part-write-part-start c =
     let first = simp length-append at (c .before .write-part .ensures .count) in
     search needs
 
+-- src/parts.rt:85:9
 part-write-part-end : tie.Need-part-write-part-end
 part-write-part-end c = search needs
 
+-- src/parts.rt:88:9
 negated-requires : tie.Need-negated-requires
 negated-requires c κs = search needs
 
+-- src/parts.rt:84:9
 write-part-requires-2 : tie.Need-write-part-requires-2
 write-part-requires-2 c κs =
     let first = simp length-append at (c .before .before .before .write-part .ensures .count) in
     tail-room (c .before .before .before .write-part .last .0) (c .before .before .before .write-part .result) (omega arith)
 
+-- src/parts.rt:90:5
 add-result : tie.Need-add-result
 add-result c =
     let first = simp length-append at (c .before .before .before .before .before .write-part .ensures .count) in
     let second = simp length-append at (c .before .write-part2 .ensures .count) in
     search needs
 
+-- src/parts.rt:78:1
 same-length : tie.Need-same-length
 same-length c = search needs
 
+-- src/parts.rt:78:1
 returns : tie.Need-returns
 returns c =
     let v = toZ-ofZ (c .before .before .before .before .before .before .before .fits .variable) in

@@ -1,4 +1,4 @@
--- `join::clashes` meets its contract: complementary literals are among those that the loop has yet to pass.
+-- `tests::clashes` meets its contract: complementary literals are among those that the loop has yet to pass.
 use borrow.Author.Needs.{needs}
 use mathlib.Core.Path.{_≡_, sym, _∙_}
 use Prim.Native.Nat.{_-_, _≤_}
@@ -6,8 +6,8 @@ use native.Mathlib.Omega.{arith}
 use lib.ListN.{length, drop, length-drop}
 use Rattle.dqbf.specs.Literal.{clashes}
 use Rattle.clauses.proofs.Laws.Clauses.{clashes-short, clashes-found, clashes-passed}
-use Rattle.clauses.proofs.join.clashes.Statement.{statement}
-use Rattle.clauses.proofs.join.clashes.Tie as tie
+use Rattle.clauses.proofs.tests.clashes.Statement.{statement}
+use Rattle.clauses.proofs.tests.clashes.Tie as tie
 
 abbrev Inv-loop : tie.InvT-loop
 Inv-loop clause i₀ i = (i ≤ length clause) × (clashes clause ≡ clashes (drop i clause))
