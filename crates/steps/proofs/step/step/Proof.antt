@@ -5,8 +5,8 @@ use Rattle.steps.proofs.step.step.Statement.{statement}
 use Rattle.steps.proofs.step.step.Tie as tie
 use Rattle.steps.proofs.step.step.Reads as reads
 use Rattle.steps.proofs.step.step.Lts as lts
-use Rattle.steps.proofs.adding.refused.Reads as refused-reads
-use Rattle.steps.proofs.examine.examine_bytes.Reads as examine-bytes-reads
+use Rattle.additions.proofs.adding.refused.Reads as refused-reads
+use Rattle.rules.proofs.examine.examine_bytes.Reads as examine-bytes-reads
 use Rattle.tables.proofs.formed.long_enough.Reads as long-enough-reads
 use Rattle.tables.proofs.formed.well_formed.Reads as well-formed-reads
 
