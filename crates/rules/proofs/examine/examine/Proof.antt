@@ -1,4 +1,5 @@
 use borrow.Author.Needs.{needs}
+use mathlib.Core.Path.{refl}
 use Rattle.records.specs.Record.{stepIn}
 use mir.Facts.{toZ-ofZ}
 use mir.Syntax.{w32}
@@ -37,19 +38,19 @@ fork-requires c κs = search needs
 
 -- src/examine.rt:13:1
 same-length : tie.Need-same-length
-same-length c = search needs
+same-length c = c .before .before .before .resolve .kept .1 .1 .1 .0
 
 -- src/examine.rt:13:1
 same-length-2 : tie.Need-same-length-2
-same-length-2 c = search needs
+same-length-2 c = c .before .before .before .resolve .kept .1 .1 .1 .1 .0
 
 -- src/examine.rt:13:1
 same-length-3 : tie.Need-same-length-3
-same-length-3 c = search needs
+same-length-3 c = refl
 
 -- src/examine.rt:13:1
 same-length-4 : tie.Need-same-length-4
-same-length-4 c = search needs
+same-length-4 c = refl
 
 -- src/examine.rt:13:1
 returns : tie.Need-returns
@@ -58,19 +59,19 @@ returns c = rw (c .before .before .before .before .before .before .before .befor
 
 -- src/examine.rt:13:1
 same-length-5 : tie.Need-same-length-5
-same-length-5 c = search needs
+same-length-5 c = c .before .before .before .reduce .kept .1 .1 .0
 
 -- src/examine.rt:13:1
 same-length-6 : tie.Need-same-length-6
-same-length-6 c = search needs
+same-length-6 c = c .before .before .before .reduce .kept .1 .1 .1 .0
 
 -- src/examine.rt:13:1
 same-length-7 : tie.Need-same-length-7
-same-length-7 c = search needs
+same-length-7 c = refl
 
 -- src/examine.rt:13:1
 same-length-8 : tie.Need-same-length-8
-same-length-8 c = search needs
+same-length-8 c = refl
 
 -- src/examine.rt:13:1
 returns-2 : tie.Need-returns-2
@@ -79,19 +80,19 @@ returns-2 c = rw (c .before .before .before .before .before .before .before .bef
 
 -- src/examine.rt:13:1
 same-length-9 : tie.Need-same-length-9
-same-length-9 c = search needs
+same-length-9 c = c .before .before .before .before .before .before .before .fork .kept .1 .1 .1 .0
 
 -- src/examine.rt:13:1
 same-length-10 : tie.Need-same-length-10
-same-length-10 c = search needs
+same-length-10 c = c .before .before .before .before .before .before .before .fork .kept .1 .1 .1 .1 .0
 
 -- src/examine.rt:13:1
 same-length-11 : tie.Need-same-length-11
-same-length-11 c = search needs
+same-length-11 c = c .before .before .before .before .before .before .before .fork .kept .1 .1 .1 .1 .1 .0
 
 -- src/examine.rt:13:1
 same-length-12 : tie.Need-same-length-12
-same-length-12 c = search needs
+same-length-12 c = c .before .before .before .before .before .before .before .fork .kept .1 .1 .1 .1 .1 .1 .0
 
 -- src/examine.rt:13:1
 returns-3 : tie.Need-returns-3

@@ -1,4 +1,5 @@
 use borrow.Author.Needs.{needs}
+use mathlib.Core.Path.{refl}
 use Rattle.rules.proofs.Laws.Bytes.{bytes-malformed, bytes-examined}
 use Rattle.rules.proofs.examine.examine_bytes.Statement.{statement}
 use Rattle.rules.proofs.examine.examine_bytes.Tie as tie
@@ -34,19 +35,19 @@ examine-requires c κs = search needs
 
 -- src/examine.rt:55:1
 same-length : tie.Need-same-length
-same-length c = search needs
+same-length c = c .before .before .before .before .before .before .before .examine .kept .1 .0
 
 -- src/examine.rt:55:1
 same-length-2 : tie.Need-same-length-2
-same-length-2 c = search needs
+same-length-2 c = c .before .before .before .before .before .before .before .examine .kept .1 .1 .0
 
 -- src/examine.rt:55:1
 same-length-3 : tie.Need-same-length-3
-same-length-3 c = search needs
+same-length-3 c = c .before .before .before .before .before .before .before .examine .kept .1 .1 .1 .0
 
 -- src/examine.rt:55:1
 same-length-4 : tie.Need-same-length-4
-same-length-4 c = search needs
+same-length-4 c = c .before .before .before .before .before .before .before .examine .kept .1 .1 .1 .1 .0
 
 -- src/examine.rt:55:1
 returns-2 : tie.Need-returns-2

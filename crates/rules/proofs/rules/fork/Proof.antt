@@ -43,11 +43,11 @@ refused-requires-2 c κs = search needs
 
 -- src/rules.rt:110:9
 same-length : tie.Need-same-length
-same-length c = search needs
+same-length c = refl
 
 -- src/rules.rt:110:9
 same-length-2 : tie.Need-same-length-2
-same-length-2 c = search needs
+same-length-2 c = refl
 
 -- src/rules.rt:110:9
 returns-2 : tie.Need-returns-2
@@ -91,15 +91,15 @@ refused-requires-3 c κs = search needs
 
 -- src/rules.rt:117:9
 same-length-3 : tie.Need-same-length-3
-same-length-3 c = search needs
+same-length-3 c = refl
 
 -- src/rules.rt:117:9
 same-length-4 : tie.Need-same-length-4
-same-length-4 c = search needs
+same-length-4 c = refl
 
 -- src/rules.rt:117:9
 same-length-5 : tie.Need-same-length-5
-same-length-5 c = search needs
+same-length-5 c = refl
 
 -- src/rules.rt:117:9
 returns-3 : tie.Need-returns-3
@@ -115,15 +115,15 @@ refused-requires-4 c κs = search needs
 
 -- src/rules.rt:120:9
 same-length-6 : tie.Need-same-length-6
-same-length-6 c = search needs
+same-length-6 c = refl
 
 -- src/rules.rt:120:9
 same-length-7 : tie.Need-same-length-7
-same-length-7 c = search needs
+same-length-7 c = refl
 
 -- src/rules.rt:120:9
 same-length-8 : tie.Need-same-length-8
-same-length-8 c = search needs
+same-length-8 c = refl
 
 -- src/rules.rt:120:9
 returns-4 : tie.Need-returns-4
@@ -139,19 +139,19 @@ add-parts-requires c κs = search needs
 
 -- src/rules.rt:98:1
 same-length-9 : tie.Need-same-length-9
-same-length-9 c = search needs
+same-length-9 c = c .before .before .before .before .before .before .before .add-parts .kept .1 .1 .1 .1 .0
 
 -- src/rules.rt:98:1
 same-length-10 : tie.Need-same-length-10
-same-length-10 c = search needs
+same-length-10 c = c .before .before .before .before .before .before .before .add-parts .kept .1 .1 .1 .1 .1 .0
 
 -- src/rules.rt:98:1
 same-length-11 : tie.Need-same-length-11
-same-length-11 c = search needs
+same-length-11 c = c .before .before .before .before .before .before .before .add-parts .kept .1 .1 .1 .1 .1 .1 .0
 
 -- src/rules.rt:98:1
 same-length-12 : tie.Need-same-length-12
-same-length-12 c = search needs
+same-length-12 c = c .before .before .before .before .before .before .before .add-parts .kept .1 .1 .1 .1 .1 .1 .1 .0
 
 -- src/rules.rt:98:1
 returns-5 : tie.Need-returns-5

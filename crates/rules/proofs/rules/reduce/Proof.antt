@@ -52,11 +52,11 @@ refused-requires-2 c κs = search needs
 
 -- src/rules.rt:72:9
 same-length : tie.Need-same-length
-same-length c = search needs
+same-length c = refl
 
 -- src/rules.rt:72:9
 same-length-2 : tie.Need-same-length-2
-same-length-2 c = search needs
+same-length-2 c = refl
 
 -- src/rules.rt:72:9
 returns-2 : tie.Need-returns-2
@@ -83,11 +83,11 @@ refused-requires-3 c κs = search needs
 
 -- src/rules.rt:76:9
 same-length-3 : tie.Need-same-length-3
-same-length-3 c = search needs
+same-length-3 c = refl
 
 -- src/rules.rt:76:9
 same-length-4 : tie.Need-same-length-4
-same-length-4 c = search needs
+same-length-4 c = refl
 
 -- src/rules.rt:76:9
 returns-3 : tie.Need-returns-3
@@ -123,11 +123,11 @@ refused-requires-4 c κs = search needs
 
 -- src/rules.rt:83:9
 same-length-5 : tie.Need-same-length-5
-same-length-5 c = search needs
+same-length-5 c = refl
 
 -- src/rules.rt:83:9
 same-length-6 : tie.Need-same-length-6
-same-length-6 c = search needs
+same-length-6 c = refl
 
 -- src/rules.rt:83:9
 returns-4 : tie.Need-returns-4
@@ -145,11 +145,11 @@ add-without-requires c κs = search needs
 
 -- src/rules.rt:59:1
 same-length-7 : tie.Need-same-length-7
-same-length-7 c = search needs
+same-length-7 c = c .before .before .before .add-without .kept .1 .1 .0
 
 -- src/rules.rt:59:1
 same-length-8 : tie.Need-same-length-8
-same-length-8 c = search needs
+same-length-8 c = c .before .before .before .add-without .kept .1 .1 .1 .0
 
 -- src/rules.rt:59:1
 returns-5 : tie.Need-returns-5

@@ -68,11 +68,11 @@ refused-requires-3 c κs = search needs
 
 -- src/rules.rt:36:9
 same-length : tie.Need-same-length
-same-length c = search needs
+same-length c = refl
 
 -- src/rules.rt:36:9
 same-length-2 : tie.Need-same-length-2
-same-length-2 c = search needs
+same-length-2 c = refl
 
 -- src/rules.rt:36:9
 returns-3 : tie.Need-returns-3
@@ -92,11 +92,11 @@ refused-requires-4 c κs = search needs
 
 -- src/rules.rt:39:9
 same-length-3 : tie.Need-same-length-3
-same-length-3 c = search needs
+same-length-3 c = refl
 
 -- src/rules.rt:39:9
 same-length-4 : tie.Need-same-length-4
-same-length-4 c = search needs
+same-length-4 c = refl
 
 -- src/rules.rt:39:9
 returns-4 : tie.Need-returns-4
@@ -121,11 +121,11 @@ add-join-requires c κs = c .before .before .before .before .before .before .bef
 
 -- src/rules.rt:18:1
 same-length-5 : tie.Need-same-length-5
-same-length-5 c = search needs
+same-length-5 c = c .before .before .before .add-join .kept .1 .1 .0
 
 -- src/rules.rt:18:1
 same-length-6 : tie.Need-same-length-6
-same-length-6 c = search needs
+same-length-6 c = c .before .before .before .add-join .kept .1 .1 .1 .0
 
 -- src/rules.rt:18:1
 returns-5 : tie.Need-returns-5
