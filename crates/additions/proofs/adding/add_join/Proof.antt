@@ -91,7 +91,7 @@ same-length c = search needs
 
 -- src/adding.rt:24:1
 same-length-2 : tie.Need-same-length-2
-same-length-2 c = search needs
+same-length-2 c = c .before .before .add-clause .kept .0
 
 -- src/adding.rt:24:1
 returns-4 : tie.Need-returns-4

@@ -99,15 +99,15 @@ same-length c = search needs
 
 -- src/adding.rt:97:1
 same-length-2 : tie.Need-same-length-2
-same-length-2 c = search needs
+same-length-2 c = c .before .before .before .before .before .before .add-fork .kept .0
 
 -- src/adding.rt:97:1
 same-length-3 : tie.Need-same-length-3
-same-length-3 c = search needs
+same-length-3 c = c .before .before .before .before .before .before .add-fork .kept .1 .0
 
 -- src/adding.rt:97:1
 same-length-4 : tie.Need-same-length-4
-same-length-4 c = search needs
+same-length-4 c = c .before .before .before .before .before .before .add-fork .kept .1 .1 .0
 
 -- src/adding.rt:97:1
 returns-2 : tie.Need-returns-2

@@ -93,7 +93,7 @@ same-length c = search needs
 
 -- src/adding.rt:68:1
 same-length-2 : tie.Need-same-length-2
-same-length-2 c = search needs
+same-length-2 c = c .before .before .add-clause .kept .0
 
 -- src/adding.rt:68:1
 returns-2 : tie.Need-returns-2
