@@ -1,15 +1,2 @@
--- Laws of the reading with tables
-pub mod Rows
-pub mod Pending
-pub mod Models
-pub mod Finishing
-pub mod Reading
-pub mod Fresh
-pub mod Declaring
-pub mod LineTests
-pub mod PrefixLines
-pub mod ClauseLines
-pub mod OpeningLines
-pub mod LineForms
-pub mod Texts
+-- Laws of the load
 pub mod Loading

@@ -4,9 +4,12 @@ ghost use Rattle.tables.specs.Tables.{tablesOf};
 ghost use Rattle.tables.specs.Spread.{zeroState};
 ghost use Rattle.dqdimacs.specs.Loading.{AfterLoad, loadOf};
 ghost use Rattle.dqdimacs.specs.declared.LoadAnswer.the-variants.{Refused};
+use table_lines::refusal;
 use tables::State;
 use tables::formed;
 use tables::zero;
+use texts::lines;
+use texts::reading;
 
 // A text is accepted, or refused with the line (0: the whole text) and its number.
 pub enum LoadAnswer {
@@ -20,13 +23,7 @@ pub struct Loaded {
     pub answer: LoadAnswer,
 }
 
-pub mod clause;
-pub mod declarations;
 pub mod finishing;
-pub mod lines;
-pub mod progress;
-pub mod reading;
-pub mod refusal;
 
 // A refused text leaves a zero state.
 fn refused(line: u32, number: u32) -> Loaded

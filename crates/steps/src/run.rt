@@ -2,8 +2,8 @@
 use crate::Ran;
 use crate::RunAnswer;
 use crate::StepAnswer;
-use crate::examine;
-use crate::refusal;
+use additions::refusal;
+use rules::examine;
 use tables::State;
 use tables::StepNumber;
 use tables::formed;
@@ -14,7 +14,7 @@ ghost use Rattle.dqbf.specs.Limits as Limits;
 ghost use Rattle.dqbf.specs.Run as Run;
 ghost use Rattle.tables.specs.Tables.{tablesOf, modelIn};
 ghost use Rattle.steps.specs.Steps.{AfterRun, ranOn, runOf};
-ghost use Rattle.steps.specs.Adding.{Holding};
+ghost use Rattle.additions.specs.Adding.{Holding};
 ghost use Rattle.steps.specs.declared.RunAnswer.the-variants.{Bad};
 ghost use Rattle.steps.specs.Runs.{recordsIn, verdictIn};
 

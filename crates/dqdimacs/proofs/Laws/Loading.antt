@@ -25,19 +25,20 @@ use Rattle.tables.specs.WellFormed.{long}
 use Rattle.tables.specs.declared.State.{State}
 use Rattle.tables.proofs.Laws.Formed.{long-is, long-to}
 use Rattle.tables.proofs.Laws.Spread.{blank-valid, blank-state, spread-again, long-spread}
-use Rattle.dqdimacs.specs.Pending.{pending, finalKind}
-use Rattle.dqdimacs.specs.Rows.{finalSets, Finished}
-use Rattle.dqdimacs.specs.Lines.{progressOf, ReadSoFar, TextRead}
+use Rattle.table_lines.specs.Pending.{pending, finalKind}
+use Rattle.table_lines.specs.Rows.{finalSets, Finished}
+use Rattle.table_lines.specs.Lines.{progressOf, ReadSoFar}
+use Rattle.texts.specs.Texts.{TextRead}
 use Rattle.dqdimacs.specs.Loading.{AfterLoad, loadAnswer, loadedModel, loadedOn, loadShort, loadOf}
 use Rattle.dqdimacs.specs.declared.Loaded.{Loaded}
 use Rattle.dqdimacs.specs.declared.LoadAnswer.the-variants.{Accepted, Refused}
-use Rattle.dqdimacs.specs.declared.progress.Progress.{Progress}
-use Rattle.dqdimacs.specs.declared.progress.TextAnswer.{TextAnswer}
-use Rattle.dqdimacs.proofs.Laws.Rows.{row-length}
-use Rattle.dqdimacs.proofs.Laws.Models.{pending-kinds, pending-sets}
-use Rattle.dqdimacs.proofs.Laws.Reading.{model-state, long-now, bound-is, places-is, kinds-over, sets-over, kinds-front, sets-front}
-use Rattle.dqdimacs.proofs.Laws.Finishing.{final-kinds, final-sets}
-use Rattle.dqdimacs.proofs.Laws.ClauseLines.{within}
+use Rattle.table_lines.specs.declared.progress.Progress.{Progress}
+use Rattle.texts.specs.declared.reading.TextAnswer.{TextAnswer}
+use Rattle.table_lines.proofs.Laws.Rows.{row-length}
+use Rattle.table_lines.proofs.Laws.Models.{pending-kinds, pending-sets}
+use Rattle.table_lines.proofs.Laws.Reading.{model-state, long-now, bound-is, places-is, kinds-over, sets-over, kinds-front, sets-front}
+use Rattle.table_lines.proofs.Laws.Finishing.{final-kinds, final-sets}
+use Rattle.table_lines.proofs.Laws.ClauseLines.{within}
 
 -- ---- the end of an accepted text
 

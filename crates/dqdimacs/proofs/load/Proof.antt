@@ -7,7 +7,7 @@ use Rattle.dqdimacs.proofs.load.Tie as tie
 use Rattle.dqdimacs.proofs.load.Reads as reads
 use Rattle.dqdimacs.proofs.load.Lts as lts
 use Rattle.dqdimacs.proofs.finishing.finish.Reads as finish-reads
-use Rattle.dqdimacs.proofs.reading.read_lines.Reads as read-lines-reads
+use Rattle.texts.proofs.reading.read_lines.Reads as read-lines-reads
 use Rattle.dqdimacs.proofs.refused.Reads as refused-reads
 use Rattle.tables.proofs.formed.long_enough.Reads as long-enough-reads
 use Rattle.tables.proofs.zero.clear.Reads as clear-reads

@@ -3,7 +3,7 @@ use Rattle.dqdimacs.proofs.refused.Statement.{statement}
 use Rattle.dqdimacs.proofs.refused.Tie as tie
 use Rattle.dqdimacs.proofs.refused.Reads as reads
 use Rattle.dqdimacs.proofs.refused.Lts as lts
-use Rattle.dqdimacs.proofs.lines.empty_state.Reads as empty-state-reads
+use Rattle.texts.proofs.lines.empty_state.Reads as empty-state-reads
 
 -- src/lib.rt:35:9
 empty-state-requires : tie.Need-empty-state-requires

@@ -24,11 +24,11 @@ use Rattle.tables.specs.Spread.{spread, stateOf}
 use Rattle.tables.specs.declared.State.{State}
 use Rattle.tables.proofs.Laws.Spread.{model-held, state-held, valid-held, model-back, formed-spread, spread-again, long-spread}
 use Rattle.steps.specs.Steps.{AfterStep, stepAnswer, examined, AfterRun, runAnswer, ranOn}
-use Rattle.steps.specs.Adding.{Holding, After}
+use Rattle.additions.specs.Adding.{Holding, After}
 use Rattle.steps.specs.Runs.{recordsIn, verdictIn}
-use Rattle.steps.specs.declared.Stepped.{Stepped}
+use Rattle.additions.specs.declared.Stepped.{Stepped}
 use Rattle.steps.specs.declared.Ran.{Ran}
-use Rattle.steps.specs.declared.StepAnswer.the-variants.{Accepted, Refused}
+use Rattle.additions.specs.declared.StepAnswer.the-variants.{Accepted, Refused}
 use Rattle.steps.specs.declared.RunAnswer.{RunAnswer}
 use Rattle.steps.specs.declared.RunAnswer.the-variants.{Refuted, Open, Bad}
 

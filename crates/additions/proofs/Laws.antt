@@ -1,0 +1,2 @@
+-- Laws of what a step adds
+pub mod Adding

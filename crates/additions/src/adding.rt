@@ -1,0 +1,129 @@
+// The last tests of each rule, and the clauses that an accepted step writes behind the last literal.
+use crate::StepAnswer;
+use crate::Stepped;
+use crate::refusal;
+use clauses::held;
+use clauses::held::Held;
+use clauses::join;
+use clauses::parts;
+use tables::State;
+use tables::adding;
+ghost use mathlib.Core.Path.{_≡_};
+ghost use Rattle.clauses.specs.Held.{clauseOf};
+ghost use Rattle.tables.specs.Tables.{tablesOf, modelIn};
+ghost use mathlib.Core.List.{[], _∷_, _++_};
+ghost use lib.IntN.{pos, negsuc};
+ghost use Prim.Native.Nat.{suc, _<_};
+ghost use Rattle.dqbf.specs.Literal.{without, pick};
+ghost use Rattle.dqbf.specs.Limits.{variableLimit};
+ghost use Rattle.additions.specs.Adding.{Holding, After, One, Two, fitted, joined};
+ghost use Rattle.additions.specs.declared.StepAnswer.the-variants.{Refused};
+
+// Nothing changes.
+pub fn refused(state: State, number: u32) -> Stepped
+    ensures { λ r. ⌜ r ≡ record { state = state; answer = Refused number } ⌝ }
+{
+    let answer = StepAnswer::Refused(number);
+    Stepped { state, answer }
+}
+
+// The join of two clauses as a new clause.
+pub fn add_join(
+    x: Held,
+    y: Held,
+    literals: &mut [i16],
+    ends: &mut [u16],
+    sets: &[u64],
+    kinds: &[u8],
+    state: State,
+) -> Stepped
+    requires { ⌜ Holding (tablesOf (now literals) (now ends) (now sets) (now kinds)) state ⌝ }
+    ensures { λ r. ⌜ After (tablesOf (now (literals .entry)) (now (ends .entry)) (now (sets .entry)) (now (kinds .entry))) state
+        (joined (modelIn (tablesOf (now (literals .entry)) (now (ends .entry)) (now (sets .entry)) (now (kinds .entry))) state) (clauseOf x) (clauseOf y))
+        (tablesOf (now (literals .exit)) (now (ends .exit)) (now (sets .entry)) (now (kinds .entry))) r ⌝ }
+{
+    let summary = join::join_summary(x, y);
+    let width = summary.width;
+    if width > 32 {
+        return refused(state, refusal::TOO_WIDE);
+    }
+    let clash = summary.clashes;
+    if clash {
+        return refused(state, refusal::COMPLEMENTARY);
+    }
+    if adding::is_full(state, 1, width as u32, 0) {
+        return refused(state, refusal::NO_ROOM);
+    }
+    let place = state.literals as usize;
+    let count = join::write_join(&mut literals[place..], x, y);
+    let next = adding::add_clause(ends, state, count as u16);
+    let answer = StepAnswer::Accepted;
+    Stepped {
+        state: next,
+        answer,
+    }
+}
+
+// The clause without a literal as a new clause.
+pub fn add_without(
+    x: Held,
+    literal: i16,
+    literals: &mut [i16],
+    ends: &mut [u16],
+    sets: &[u64],
+    kinds: &[u8],
+    state: State,
+) -> Stepped
+    requires { ⌜ Holding (tablesOf (now literals) (now ends) (now sets) (now kinds)) state ⌝ }
+    ensures { λ r. ⌜ After (tablesOf (now (literals .entry)) (now (ends .entry)) (now (sets .entry)) (now (kinds .entry))) state
+        (fitted (modelIn (tablesOf (now (literals .entry)) (now (ends .entry)) (now (sets .entry)) (now (kinds .entry))) state) (One (without literal (clauseOf x))))
+        (tablesOf (now (literals .exit)) (now (ends .exit)) (now (sets .entry)) (now (kinds .entry))) r ⌝ }
+{
+    let width = held::width(parts::held_without(x, literal));
+    if adding::is_full(state, 1, width as u32, 0) {
+        return refused(state, refusal::NO_ROOM);
+    }
+    let place = state.literals as usize;
+    let count = parts::write_without(&mut literals[place..], x, literal);
+    let next = adding::add_clause(ends, state, count as u16);
+    let answer = StepAnswer::Accepted;
+    Stepped {
+        state: next,
+        answer,
+    }
+}
+
+// The two parts of a fork as new clauses, with the new variable, whose set is given.
+pub fn add_parts(
+    x: Held,
+    left: u32,
+    right: u32,
+    set: u64,
+    literals: &mut [i16],
+    ends: &mut [u16],
+    sets: &mut [u64],
+    kinds: &mut [u8],
+    state: State,
+) -> Stepped
+    requires { ⌜ Holding (tablesOf (now literals) (now ends) (now sets) (now kinds)) state ⌝ }
+    ensures { λ r. ⌜ After (tablesOf (now (literals .entry)) (now (ends .entry)) (now (sets .entry)) (now (kinds .entry))) state
+        (fitted (modelIn (tablesOf (now (literals .entry)) (now (ends .entry)) (now (sets .entry)) (now (kinds .entry))) state)
+        (Two (pick left (clauseOf x) ++ (pos (suc (state .variables .0)) ∷ [])) (pick right (clauseOf x) ++ (negsuc (state .variables .0) ∷ [])) set))
+        (tablesOf (now (literals .exit)) (now (ends .exit)) (now (sets .exit)) (now (kinds .exit))) r ⌝ }
+{
+    let first = parts::part_length(x, left) + 1;
+    let second = parts::part_length(x, right) + 1;
+    if adding::is_full(state, 2, (first + second) as u32, 1) {
+        return refused(state, refusal::NO_ROOM);
+    }
+    let variables = state.variables;
+    let variable = (variables.0 + 1) as i16;
+    let place = state.literals as usize;
+    parts::write_fork(&mut literals[place..], x, left, right, variable);
+    let next = adding::add_fork(ends, sets, kinds, state, first as u16, second as u16, set);
+    let answer = StepAnswer::Accepted;
+    Stepped {
+        state: next,
+        answer,
+    }
+}

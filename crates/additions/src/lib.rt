@@ -1,0 +1,17 @@
+// What an accepted step adds to the four lent tables, with the last tests of its rule (document 01, "Numbers of refusal": 24, 23, 25).
+use tables::State;
+
+// A step is accepted, or refused with its number.
+pub enum StepAnswer {
+    Accepted,
+    Refused(u32),
+}
+
+// The state behind a step, with the answer.
+pub struct Stepped {
+    pub state: State,
+    pub answer: StepAnswer,
+}
+
+pub mod adding;
+pub mod refusal;

@@ -1,0 +1,303 @@
+-- The three rules over tables that hold a model: clauses by number, and each test as the code comes to it, one law for each outcome.
+use mathlib.Core.Path.{_≡_, refl, sym, _∙_, ap}
+use mathlib.Core.Logic.{_≢_}
+use mathlib.Core.Bool.{Bool, true, false, cond, not, _&&_, _||_, true≢false}
+use mathlib.Core.List.{[], _∷_, _++_}
+use Prim.Native.Nat.{ℕ, zero, suc, _+_, _-_, _≤_, _<_}
+use native.Mathlib.Omega.{arith}
+use borrow.Author.Tests.{eq-eqb, ne-eqb}
+use lib.Dec.{eqb, ltb}
+use lib.IntN.{ℤ, pos, negsuc, negℤ, natAbs}
+use lib.ListN.{length, take}
+use Rattle.dqbf.specs.Limits.{tables, widthLimit, literalRange}
+use Rattle.dqbf.specs.Refusal.{refusal}
+use Rattle.dqbf.specs.Literal.{Clause, _∈_, literalIn, holds, without, join, clashes, pick, covers}
+use Rattle.dqbf.specs.Set.{Set, inside, common}
+use Rattle.dqbf.specs.Model.{Model, clauses, used, kindOf, setOf, clauseSet}
+use Rattle.dqbf.specs.Record.{resolution, reduction, fork}
+use Rattle.dqbf.specs.Rules.{unknown, clauseAt, noRoom, resolvent, resolving, reads, reducing, forking}
+use Rattle.dqbf.specs.Run.{Examined, examine}
+use Rattle.dqbf.proofs.Laws.Tests.{or-no, or-left, or-right, no-or, eqb-same, ltb-no}
+use Rattle.dqbf.proofs.Laws.Clauses.{holds-in}
+use Rattle.dqbf.proofs.Laws.Outcomes.{resolution-first, resolution-second, resolution-22, resolution-24, resolution-23, resolution-25, resolution-accepted, reduction-21, reduction-22, reduction-26, reduction-27, reduction-25, reduction-accepted, fork-21, fork-28, fork-29, fork-25, fork-accepted}
+use Rattle.tables.specs.Tables.{Tables, modelIn, stretch, entry}
+use Rattle.tables.specs.declared.State.{State}
+use Rattle.clauses.specs.Sets.{readsIn, clauseSetIn}
+use Rattle.clauses.proofs.Laws.Sets.{model-reads, model-clause-set}
+use Rattle.tables.specs.Spread.{setRow}
+use Rattle.tables.proofs.Laws.Adding.{variable-count}
+use Rattle.tables.proofs.Laws.Held.{sets-is}
+use Rattle.tables.proofs.Laws.Formed.{long-is, formed-is}
+use Rattle.tables.proofs.Laws.Spread.{valid-held}
+use Rattle.tables.proofs.Laws.Entries.{unknown-told, range-rises, range-ends, range-narrow, clause-at, clause-there, kind-told, set-told, literal-in-use}
+use Rattle.additions.specs.Adding.{Holding, After, One, Two, fitted, joined}
+use Rattle.rules.specs.Clauses.{isUnknown, Ranged}
+use Rattle.additions.specs.declared.Stepped.{Stepped}
+use Rattle.additions.specs.declared.StepAnswer.the-variants.{Refused}
+use Rattle.additions.proofs.Laws.Adding.{after-refused, joined-24, joined-23, joined-fitted, fitted-25, fitted-accepted}
+use Rattle.rules.proofs.Laws.Pivots.{pivot-holds, pivot-is}
+
+not-true : (b : Bool) → not b ≡ true → b ≡ false
+not-true true h = sym h
+not-true false h = refl
+
+not-false : (b : Bool) → not b ≡ false → b ≡ true
+not-false true h = refl
+not-false false h = sym h
+
+and-false : (b : Bool) → (b && false) ≡ false
+and-false true = refl
+and-false false = refl
+
+-- ---- clauses by number
+
+module _ (t : Tables) (s : State) (h : Holding t s) where
+  pub unknown-is : (c : ℕ) {f : Bool} → f ≡ isUnknown s c → unknown (modelIn t s) c ≡ f
+  unfolding isUnknown
+  unknown-is c e = unknown-told t s (h .lent) (h .formed) c ∙ sym e
+
+  few-variables : used (modelIn t s) ≤ literalRange
+  few-variables = omega (arith, variable-count t s (h .lent) (h .formed), formed-is t s (h .formed) .counts .variables)
+
+  module _ (c : ℕ) {f : Bool} (told : f ≡ isUnknown s c) (known : f ≡ false) where
+    parts : (eqb c 0 ≡ false) × (ltb (s .clauses .0) c ≡ false)
+    unfolding isUnknown
+    parts = or-no (eqb c 0) (ltb (s .clauses .0) c) (sym told ∙ known)
+
+    some : c ≡ 0 → ⊥
+    some e = true≢false (sym (eqb-same 0) ∙ (rw e at (parts .0)))
+
+    low : c ≤ s .clauses .0
+    low = ltb-no (s .clauses .0) c (parts .1)
+
+    pub known-is : unknown (modelIn t s) c ≡ false
+    known-is = unknown-is c told ∙ known
+
+    pub ranged : Ranged (t .literals) (t .ends) c
+    ranged = record {
+      some = positive c some;
+      in-ends = omega (arith, low, formed-is t s (h .formed) .counts .clauses, long-is t (h .lent) .ends);
+      rises = range-rises t s (h .lent) (h .formed) c some low;
+      in-literals = range-ends t s (h .lent) (h .formed) c some low;
+      narrow = range-narrow t s (h .lent) (h .formed) c some low;
+    }
+      where
+        positive : (c : ℕ) → (c ≡ 0 → ⊥) → 0 < c
+        positive zero n = absurd (n refl)
+        positive (suc c) n = omega arith
+
+    pub ranged-clause : {C : Clause} → C ≡ stretch (entry (t .ends) (c - 1)) (entry (t .ends) c) (t .literals) → C ≡ clauseAt (modelIn t s) c
+    ranged-clause e = e ∙ sym (clause-at t s (h .lent) (h .formed) c some low)
+
+    -- a record's literal in this clause
+    pub in-clause : {C : Clause} → C ≡ clauseAt (modelIn t s) c → (z : ℤ) {b : Bool} → b ≡ holds (literalIn z) C → holds z (clauseAt (modelIn t s) c) ≡ b
+    in-clause e z p = sym (p ∙ rw e (pivot-holds tables (modelIn t s) (valid-held t s (h .lent) (h .formed)) few-variables (clauseAt (modelIn t s) c) (clause-there t s (h .lent) (h .formed) c some low) z))
+
+    pub in-clause-is : {C : Clause} → C ≡ clauseAt (modelIn t s) c → (z : ℤ) {b : Bool} → b ≡ holds (literalIn z) C → b ≡ true → literalIn z ≡ z
+    in-clause-is e z p q =
+        pivot-is tables (modelIn t s) (valid-held t s (h .lent) (h .formed)) few-variables (clauseAt (modelIn t s) c) (clause-there t s (h .lent) (h .formed) c some low) z (rw e at (sym p ∙ q))
+
+    -- the variables of its literals are in use
+    pub clause-variable : (l : ℤ) → l ∈ clauseAt (modelIn t s) c → natAbs l ≤ s .variables .0
+    clause-variable l q = literal-in-use t s (h .lent) (h .formed) (clauseAt (modelIn t s) c) (clause-there t s (h .lent) (h .formed) c some low) l q
+
+-- ---- resolution: what is left of its tests behind 22 is the join's
+
+module _ (m : Model) (c d : ℕ) (z : ℤ) (known : unknown m c ≡ false) (known′ : unknown m d ≡ false)
+    (held : (holds z (clauseAt m c) && holds (negℤ z) (clauseAt m d)) ≡ true) where
+  abbrev A : Clause
+  A = without z (clauseAt m c)
+
+  abbrev B : Clause
+  B = without (negℤ z) (clauseAt m d)
+
+  pub resolution-joined : examine tables m (resolution c d z) ≡ joined m A B
+  unfolding joined fitted resolvent resolving
+  resolution-joined = wide (ltb widthLimit (length (join A B))) refl
+    where
+      room : (b : Bool) → noRoom tables m (One (join A B)) ≡ b → ltb widthLimit (length (join A B)) ≡ false → clashes (join A B) ≡ false → examine tables m (resolution c d z) ≡ joined m A B
+      room true e n k = rw (n, k, e) (resolution-25 tables m c d z known known′ held n k e)
+      room false e n k = rw (n, k, e) (resolution-accepted tables m c d z known known′ held n k e)
+
+      calm : (b : Bool) → clashes (join A B) ≡ b → ltb widthLimit (length (join A B)) ≡ false → examine tables m (resolution c d z) ≡ joined m A B
+      calm true e n = rw (n, e) (resolution-23 tables m c d z known known′ held n e)
+      calm false e n = room (noRoom tables m (One (join A B))) refl n e
+
+      wide : (b : Bool) → ltb widthLimit (length (join A B)) ≡ b → examine tables m (resolution c d z) ≡ joined m A B
+      wide true e = rw e (resolution-24 tables m c d z known known′ held e)
+      wide false e = calm (clashes (join A B)) refl e
+
+module _ (t : Tables) (s : State) (h : Holding t s) (c d : ℕ) (z : ℤ) {f g : Bool} (told : f ≡ isUnknown s c) (told′ : g ≡ isUnknown s d) where
+  abbrev E : Examined
+  E = examine tables (modelIn t s) (resolution c d z)
+
+  pub resolve-first : {r : Stepped} → f ≡ true → r ≡ record { state = s; answer = Refused 21 } → After t s E t r
+  resolve-first b e = after-refused t s h E (refusal 21) (resolution-first tables (modelIn t s) c d z (unknown-is t s h c told ∙ b)) e
+
+  module _ (known : f ≡ false) where
+    pub resolve-second : {r : Stepped} → g ≡ true → r ≡ record { state = s; answer = Refused 21 } → After t s E t r
+    resolve-second b e = after-refused t s h E (refusal 21) (resolution-second tables (modelIn t s) c d z (known-is t s h c told known) (unknown-is t s h d told′ ∙ b)) e
+
+    module _ (known′ : g ≡ false) {X Y : Clause} (isX : X ≡ stretch (entry (t .ends) (c - 1)) (entry (t .ends) c) (t .literals))
+        (isY : Y ≡ stretch (entry (t .ends) (d - 1)) (entry (t .ends) d) (t .literals)) {P Q : ℤ} (p : P ≡ literalIn z) (q : Q ≡ negℤ P) {a : Bool} (inX : a ≡ holds P X) where
+      X-is : X ≡ clauseAt (modelIn t s) c
+      X-is = ranged-clause t s h c told known isX
+
+      Y-is : Y ≡ clauseAt (modelIn t s) d
+      Y-is = ranged-clause t s h d told′ known′ isY
+
+      first-in : holds z (clauseAt (modelIn t s) c) ≡ a
+      first-in = in-clause t s h c told known X-is z (rw p at inX)
+
+      -- 22, if the test of the first or of the second clause fails
+      not-held : {r : Stepped} → (holds z (clauseAt (modelIn t s) c) && holds (negℤ z) (clauseAt (modelIn t s) d)) ≡ false → r ≡ record { state = s; answer = Refused 22 } → After t s E t r
+      not-held b e =
+          after-refused t s h E (refusal 22) (resolution-22 tables (modelIn t s) c d z (known-is t s h c told known) (known-is t s h d told′ known′) b) e
+
+      pub resolve-pivot : {r : Stepped} → not a ≡ true → r ≡ record { state = s; answer = Refused 22 } → After t s E t r
+      resolve-pivot b e = not-held (rw (first-in, not-true a b)) e
+
+      module _ (held : not a ≡ false) {b : Bool} (inY : b ≡ holds Q Y) where
+        P-is : P ≡ z
+        P-is = p ∙ in-clause-is t s h c told known X-is z (rw p at inX) (not-false a held)
+
+        second-in : holds (negℤ z) (clauseAt (modelIn t s) d) ≡ b
+        second-in = sym (inY ∙ rw (q, P-is, Y-is))
+
+        pub resolve-complement : {r : Stepped} → not b ≡ true → r ≡ record { state = s; answer = Refused 22 } → After t s E t r
+        resolve-complement k e = not-held (rw (second-in, not-true b k) (and-false (holds z (clauseAt (modelIn t s) c)))) e
+
+        pub resolve-joined : not b ≡ false → {A B : Clause} → A ≡ without P X → B ≡ without Q Y → E ≡ joined (modelIn t s) A B
+        resolve-joined k isA isB =
+            resolution-joined (modelIn t s) c d z (known-is t s h c told known) (known-is t s h d told′ known′) (rw (first-in, not-false a held, second-in, not-false b k))
+            ∙ rw (isA, isB, q, P-is, X-is, Y-is)
+
+-- ---- universal reduction
+
+module _ (t : Tables) (s : State) (h : Holding t s) where
+  -- the sets of the variables in use are the model's
+  pub sets-are : take (s .variables .0) (t .sets) ≡ modelIn t s .sets ++ modelIn t s .forks
+  unfolding setRow
+  sets-are = sym (sets-is t s)
+
+module _ (t : Tables) (s : State) (h : Holding t s) (c : ℕ) (z : ℤ) {f : Bool} (told : f ≡ isUnknown s c) where
+  abbrev U : Examined
+  U = examine tables (modelIn t s) (reduction c z)
+
+  pub reduce-unknown : {r : Stepped} → f ≡ true → r ≡ record { state = s; answer = Refused 21 } → After t s U t r
+  reduce-unknown b e = after-refused t s h U (refusal 21) (reduction-21 tables (modelIn t s) c z (unknown-is t s h c told ∙ b)) e
+
+  module _ (known : f ≡ false) {X : Clause} (isX : X ≡ stretch (entry (t .ends) (c - 1)) (entry (t .ends) c) (t .literals)) {P : ℤ} (p : P ≡ literalIn z) {a : Bool}
+      (inX : a ≡ holds P X) where
+    C-is : X ≡ clauseAt (modelIn t s) c
+    C-is = ranged-clause t s h c told known isX
+
+    literal-in-clause : holds z (clauseAt (modelIn t s) c) ≡ a
+    literal-in-clause = in-clause t s h c told known C-is z (rw p at inX)
+
+    pub reduce-absent : {r : Stepped} → not a ≡ true → r ≡ record { state = s; answer = Refused 22 } → After t s U t r
+    reduce-absent b e =
+        after-refused t s h U (refusal 22) (reduction-22 tables (modelIn t s) c z (known-is t s h c told known) (literal-in-clause ∙ not-true a b)) e
+
+    module _ (held : not a ≡ false) where
+      L-is : P ≡ z
+      L-is = p ∙ in-clause-is t s h c told known C-is z (rw p at inX) (not-false a held)
+
+      there : holds z (clauseAt (modelIn t s) c) ≡ true
+      there = literal-in-clause ∙ not-false a held
+
+      -- its variable is in use
+      pub reduce-used : natAbs P ≤ s .variables .0
+      reduce-used = rw L-is (clause-variable t s h c told known z (holds-in z (clauseAt (modelIn t s) c) there))
+
+      module _ {k : ℕ} (isK : k ≡ entry (t .kinds) (natAbs P)) where
+        kind-is : kindOf (modelIn t s) (natAbs z) ≡ k
+        kind-is = sym (isK ∙ kind-told t s (h .lent) (h .formed) (natAbs P) reduce-used ∙ ap (λ (l : ℤ). kindOf (modelIn t s) (natAbs l)) L-is)
+
+        pub reduce-other : {r : Stepped} → k ≢ 1 → r ≡ record { state = s; answer = Refused 26 } → After t s U t r
+        reduce-other b e =
+            after-refused t s h U (refusal 26) (reduction-26 tables (modelIn t s) c z (known-is t s h c told known) there (rw kind-is (ne-eqb k 1 b))) e
+
+        module _ (universal : k ≡ 1) {w : Set} (isW : w ≡ entry (t .sets) (natAbs P)) {A : Clause} (isA : A ≡ without P X) {n : ℕ} (isN : n ≡ s .variables .0) {b : Bool}
+            (isRead : b ≡ readsIn (take n (t .sets)) w A) where
+          read-is : reads (modelIn t s) (setOf (modelIn t s) (natAbs z)) (without z (clauseAt (modelIn t s) c)) ≡ b
+          read-is = sym (isRead ∙ rw (isN, sets-are t s h, isW, set-told t s (h .lent) (h .formed) (natAbs P) reduce-used, isA, L-is, C-is) (model-reads (modelIn t s) (setOf (modelIn t s) (natAbs z)) (without z (clauseAt (modelIn t s) c))))
+
+          pub reduce-read : {r : Stepped} → b ≡ true → r ≡ record { state = s; answer = Refused 27 } → After t s U t r
+          reduce-read q e =
+              after-refused t s h U (refusal 27) (reduction-27 tables (modelIn t s) c z (known-is t s h c told known) there (rw kind-is (eq-eqb k 1 universal)) (read-is ∙ q)) e
+
+          pub reduce-fitted : b ≡ false → U ≡ fitted (modelIn t s) (One (without P X))
+          unfolding fitted reducing
+          reduce-fitted q = rw (L-is, C-is) (room (noRoom tables (modelIn t s) (reducing (clauseAt (modelIn t s) c) z)) refl)
+            where
+              u : eqb (kindOf (modelIn t s) (natAbs z)) 1 ≡ true
+              u = rw kind-is (eq-eqb k 1 universal)
+
+              room : (x : Bool) → noRoom tables (modelIn t s) (One (without z (clauseAt (modelIn t s) c))) ≡ x
+                  → U ≡ fitted (modelIn t s) (One (without z (clauseAt (modelIn t s) c)))
+              room true e = rw e (reduction-25 tables (modelIn t s) c z (known-is t s h c told known) there u (read-is ∙ q) e)
+              room false e = rw e (reduction-accepted tables (modelIn t s) c z (known-is t s h c told known) there u (read-is ∙ q) e)
+
+-- ---- fork
+
+module _ (t : Tables) (s : State) (h : Holding t s) (c left right : ℕ) {f : Bool} (told : f ≡ isUnknown s c) where
+  abbrev K : Examined
+  K = examine tables (modelIn t s) (fork c left right)
+
+  pub fork-unknown : {r : Stepped} → f ≡ true → r ≡ record { state = s; answer = Refused 21 } → After t s K t r
+  fork-unknown b e = after-refused t s h K (refusal 21) (fork-21 tables (modelIn t s) c left right (unknown-is t s h c told ∙ b)) e
+
+  module _ (known : f ≡ false) {X : Clause} (isX : X ≡ stretch (entry (t .ends) (c - 1)) (entry (t .ends) c) (t .literals)) {a : Bool} (covered : a ≡ covers left right X) where
+    X-clause : X ≡ clauseAt (modelIn t s) c
+    X-clause = ranged-clause t s h c told known isX
+
+    covers-is : covers left right (clauseAt (modelIn t s) c) ≡ a
+    covers-is = sym (covered ∙ rw X-clause)
+
+    pub fork-masks : {r : Stepped} → not a ≡ true → r ≡ record { state = s; answer = Refused 28 } → After t s K t r
+    fork-masks b e = after-refused t s h K (refusal 28) (fork-28 tables (modelIn t s) c left right (known-is t s h c told known) (covers-is ∙ not-true a b)) e
+
+    module _ (whole : not a ≡ false) {n : ℕ} (isN : n ≡ s .variables .0) {x y : Set} (isLeft : x ≡ clauseSetIn (take n (t .sets)) (pick left X))
+        (isRight : y ≡ clauseSetIn (take n (t .sets)) (pick right X)) {p q : Bool} (lies : p ≡ inside x y) (around : q ≡ inside y x) where
+      left-set : clauseSet (modelIn t s) (pick left (clauseAt (modelIn t s) c)) ≡ x
+      left-set = sym (isLeft ∙ rw (isN, sets-are t s h, X-clause) (model-clause-set (modelIn t s) (pick left (clauseAt (modelIn t s) c))))
+
+      right-set : clauseSet (modelIn t s) (pick right (clauseAt (modelIn t s) c)) ≡ y
+      right-set = sym (isRight ∙ rw (isN, sets-are t s h, X-clause) (model-clause-set (modelIn t s) (pick right (clauseAt (modelIn t s) c))))
+
+      compared : (inside (clauseSet (modelIn t s) (pick left (clauseAt (modelIn t s) c))) (clauseSet (modelIn t s) (pick right (clauseAt (modelIn t s) c)))
+          || inside (clauseSet (modelIn t s) (pick right (clauseAt (modelIn t s) c))) (clauseSet (modelIn t s) (pick left (clauseAt (modelIn t s) c)))) ≡ (p || q)
+      compared = rw (left-set, right-set, lies, around)
+
+      covered-whole : covers left right (clauseAt (modelIn t s) c) ≡ true
+      covered-whole = covers-is ∙ not-false a whole
+
+      comparable : {r : Stepped} → (p || q) ≡ true → r ≡ record { state = s; answer = Refused 29 } → After t s K t r
+      comparable b e =
+          after-refused t s h K (refusal 29) (fork-29 tables (modelIn t s) c left right (known-is t s h c told known) covered-whole (compared ∙ b)) e
+
+      pub fork-inside : {r : Stepped} → p ≡ true → r ≡ record { state = s; answer = Refused 29 } → After t s K t r
+      fork-inside b e = comparable (or-left p q b) e
+
+      pub fork-around : {r : Stepped} → q ≡ true → r ≡ record { state = s; answer = Refused 29 } → After t s K t r
+      fork-around b e = comparable (or-right p q b) e
+
+      pub fork-fitted : p ≡ false → q ≡ false → {w : Set} → w ≡ common x y
+          → K ≡ fitted (modelIn t s) (Two (pick left X ++ (pos (suc (s .variables .0)) ∷ [])) (pick right X ++ (negsuc (s .variables .0) ∷ [])) w)
+      unfolding fitted forking
+      fork-fitted u v isW =
+          room (noRoom tables (modelIn t s) (forking (modelIn t s) (pick left (clauseAt (modelIn t s) c)) (pick right (clauseAt (modelIn t s) c)))) refl
+          ∙ ap (λ (k : ℕ). fitted (modelIn t s) (Two (pick left (clauseAt (modelIn t s) c) ++ (pos (suc k) ∷ [])) (pick right (clauseAt (modelIn t s) c) ++ (negsuc k ∷ []))
+          (common (clauseSet (modelIn t s) (pick left (clauseAt (modelIn t s) c))) (clauseSet (modelIn t s) (pick right (clauseAt (modelIn t s) c))))))
+          (variable-count t s (h .lent) (h .formed))
+          ∙ rw (isW, left-set, right-set, X-clause)
+        where
+          apart : (inside (clauseSet (modelIn t s) (pick left (clauseAt (modelIn t s) c))) (clauseSet (modelIn t s) (pick right (clauseAt (modelIn t s) c)))
+              || inside (clauseSet (modelIn t s) (pick right (clauseAt (modelIn t s) c))) (clauseSet (modelIn t s) (pick left (clauseAt (modelIn t s) c)))) ≡ false
+          apart = compared ∙ no-or p q u v
+
+          room : (k : Bool) → noRoom tables (modelIn t s) (forking (modelIn t s) (pick left (clauseAt (modelIn t s) c)) (pick right (clauseAt (modelIn t s) c))) ≡ k
+              → K ≡ fitted (modelIn t s) (forking (modelIn t s) (pick left (clauseAt (modelIn t s) c)) (pick right (clauseAt (modelIn t s) c)))
+          room true e = rw e (fork-25 tables (modelIn t s) c left right (known-is t s h c told known) covered-whole apart e)
+          room false e = rw e (fork-accepted tables (modelIn t s) c left right (known-is t s h c told known) covered-whole apart e)

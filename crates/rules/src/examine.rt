@@ -1,0 +1,73 @@
+// A record, decoded and examined by its rule.
+use crate::rules;
+use additions::Stepped;
+use additions::adding;
+use additions::refusal;
+use records::Decoded;
+use records::Step;
+use tables::ClauseNumber;
+use tables::State;
+ghost use Rattle.dqbf.specs.Limits as Limits;
+ghost use Rattle.dqbf.specs.Run as Run;
+ghost use Rattle.records.specs.Record.{stepIn};
+ghost use Rattle.tables.specs.Tables.{tablesOf, modelIn};
+ghost use Rattle.additions.specs.Adding.{Holding, After};
+
+pub fn examine(
+    step: Step,
+    literals: &mut [i16],
+    ends: &mut [u16],
+    sets: &mut [u64],
+    kinds: &mut [u8],
+    state: State,
+) -> Stepped
+    requires { ⌜ Holding (tablesOf (now literals) (now ends) (now sets) (now kinds)) state ⌝ }
+    ensures { λ r. ⌜ After (tablesOf (now (literals .entry)) (now (ends .entry)) (now (sets .entry)) (now (kinds .entry))) state
+        (Run.examine Limits.tables (modelIn (tablesOf (now (literals .entry)) (now (ends .entry)) (now (sets .entry)) (now (kinds .entry))) state) (stepIn step))
+        (tablesOf (now (literals .exit)) (now (ends .exit)) (now (sets .exit)) (now (kinds .exit))) r ⌝ }
+{
+    match step {
+        Step::Resolution {
+            clause,
+            second,
+            pivot,
+        } => {
+            let first = ClauseNumber(clause);
+            let other = ClauseNumber(second);
+            rules::resolve(first, other, pivot, literals, ends, sets, kinds, state)
+        }
+        Step::Reduction { clause, literal } => {
+            let number = ClauseNumber(clause);
+            rules::reduce(number, literal, literals, ends, sets, kinds, state)
+        }
+        Step::Fork {
+            clause,
+            left,
+            right,
+        } => {
+            let number = ClauseNumber(clause);
+            rules::fork(number, left, right, literals, ends, sets, kinds, state)
+        }
+    }
+}
+
+// The record at the front of the bytes: 20, then its rule.
+pub fn examine_bytes(
+    bytes: &[u8],
+    literals: &mut [i16],
+    ends: &mut [u16],
+    sets: &mut [u64],
+    kinds: &mut [u8],
+    state: State,
+) -> Stepped
+    requires { ⌜ Holding (tablesOf (now literals) (now ends) (now sets) (now kinds)) state ⌝ }
+    ensures { λ r. ⌜ After (tablesOf (now (literals .entry)) (now (ends .entry)) (now (sets .entry)) (now (kinds .entry))) state
+        (Run.examineBytes Limits.tables (modelIn (tablesOf (now (literals .entry)) (now (ends .entry)) (now (sets .entry)) (now (kinds .entry))) state) (now (bytes .entry)))
+        (tablesOf (now (literals .exit)) (now (ends .exit)) (now (sets .exit)) (now (kinds .exit))) r ⌝ }
+{
+    let decoded = records::decode(bytes);
+    let Decoded::Step(step) = decoded else {
+        return adding::refused(state, refusal::MALFORMED);
+    };
+    examine(step, literals, ends, sets, kinds, state)
+}

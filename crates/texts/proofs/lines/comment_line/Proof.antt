@@ -1,0 +1,17 @@
+use borrow.Author.Needs.{needs}
+use Rattle.texts.proofs.Laws.OpeningLines.{comment-late, comment-read}
+use Rattle.texts.proofs.lines.comment_line.Statement.{statement}
+use Rattle.texts.proofs.lines.comment_line.Tie as tie
+use Rattle.texts.proofs.lines.comment_line.Reads as reads
+use Rattle.texts.proofs.lines.comment_line.Lts as lts
+
+-- src/lines.rt:42:9
+returns : tie.Need-returns
+returns c = λ t r now h. comment-late h (c .if1 .taken)
+
+-- src/lines.rt:38:1
+returns-2 : tie.Need-returns-2
+returns-2 c = λ t r now h. comment-read h (c .if1 .left)
+
+pub comment-line-spec : {M : Type 1} → statement M
+comment-line-spec = tie.close (tie.spec returns returns-2)
