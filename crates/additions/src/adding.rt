@@ -2,20 +2,19 @@
 use crate::StepAnswer;
 use crate::Stepped;
 use crate::refusal;
-use clauses::held;
-use clauses::held::Held;
 use clauses::join;
 use clauses::parts;
+use clauses::tests;
 use tables::State;
 use tables::adding;
 ghost use mathlib.Core.Path.{_≡_};
-ghost use Rattle.clauses.specs.Held.{clauseOf};
 ghost use Rattle.tables.specs.Tables.{tablesOf, modelIn};
 ghost use mathlib.Core.List.{[], _∷_, _++_};
 ghost use lib.IntN.{pos, negsuc};
-ghost use Prim.Native.Nat.{suc, _<_};
-ghost use Rattle.dqbf.specs.Literal.{without, pick};
-ghost use Rattle.dqbf.specs.Limits.{variableLimit};
+ghost use Prim.Native.Nat.{suc, _≤_};
+ghost use lib.ListN.{length};
+ghost use Rattle.dqbf.specs.Literal.{pick};
+ghost use Rattle.dqbf.specs.Limits.{widthLimit};
 ghost use Rattle.additions.specs.Adding.{Holding, After, One, Two, fitted, joined};
 ghost use Rattle.additions.specs.declared.StepAnswer.the-variants.{Refused};
 
@@ -27,35 +26,26 @@ pub fn refused(state: State, number: u32) -> Stepped
     Stepped { state, answer }
 }
 
-// The join of two clauses as a new clause.
-pub fn add_join(
-    x: Held,
-    y: Held,
+// A clause as a new clause.
+pub fn add_one(
+    clause: &[i16],
     literals: &mut [i16],
     ends: &mut [u16],
     sets: &[u64],
     kinds: &[u8],
     state: State,
 ) -> Stepped
-    requires { ⌜ Holding (tablesOf (now literals) (now ends) (now sets) (now kinds)) state ⌝ }
+    requires { ⌜ Holding (tablesOf (now literals) (now ends) (now sets) (now kinds)) state × (length (now clause) ≤ widthLimit) ⌝ }
     ensures { λ r. ⌜ After (tablesOf (now (literals .entry)) (now (ends .entry)) (now (sets .entry)) (now (kinds .entry))) state
-        (joined (modelIn (tablesOf (now (literals .entry)) (now (ends .entry)) (now (sets .entry)) (now (kinds .entry))) state) (clauseOf x) (clauseOf y))
+        (fitted (modelIn (tablesOf (now (literals .entry)) (now (ends .entry)) (now (sets .entry)) (now (kinds .entry))) state) (One (now (clause .entry))))
         (tablesOf (now (literals .exit)) (now (ends .exit)) (now (sets .entry)) (now (kinds .entry))) r ⌝ }
 {
-    let summary = join::join_summary(x, y);
-    let width = summary.width;
-    if width > 32 {
-        return refused(state, refusal::TOO_WIDE);
-    }
-    let clash = summary.clashes;
-    if clash {
-        return refused(state, refusal::COMPLEMENTARY);
-    }
+    let width = clause.len();
     if adding::is_full(state, 1, width as u32, 0) {
         return refused(state, refusal::NO_ROOM);
     }
     let place = state.literals as usize;
-    let count = join::write_join(&mut literals[place..], x, y);
+    let count = parts::write_clause(&mut literals[place..], clause);
     let next = adding::add_clause(ends, state, count as u16);
     let answer = StepAnswer::Accepted;
     Stepped {
@@ -64,38 +54,35 @@ pub fn add_join(
     }
 }
 
-// The clause without a literal as a new clause.
-pub fn add_without(
-    x: Held,
-    literal: i16,
+// The join of two clauses as a new clause.
+pub fn add_join(
+    x: &[i16],
+    y: &[i16],
     literals: &mut [i16],
     ends: &mut [u16],
     sets: &[u64],
     kinds: &[u8],
     state: State,
 ) -> Stepped
-    requires { ⌜ Holding (tablesOf (now literals) (now ends) (now sets) (now kinds)) state ⌝ }
+    requires { ⌜ Holding (tablesOf (now literals) (now ends) (now sets) (now kinds)) state × (length (now x) ≤ widthLimit) × (length (now y) ≤ widthLimit) ⌝ }
     ensures { λ r. ⌜ After (tablesOf (now (literals .entry)) (now (ends .entry)) (now (sets .entry)) (now (kinds .entry))) state
-        (fitted (modelIn (tablesOf (now (literals .entry)) (now (ends .entry)) (now (sets .entry)) (now (kinds .entry))) state) (One (without literal (clauseOf x))))
+        (joined (modelIn (tablesOf (now (literals .entry)) (now (ends .entry)) (now (sets .entry)) (now (kinds .entry))) state) (now (x .entry)) (now (y .entry)))
         (tablesOf (now (literals .exit)) (now (ends .exit)) (now (sets .entry)) (now (kinds .entry))) r ⌝ }
 {
-    let width = held::width(parts::held_without(x, literal));
-    if adding::is_full(state, 1, width as u32, 0) {
-        return refused(state, refusal::NO_ROOM);
+    let mut whole = [0i16; 64];
+    let width = join::write_join(&mut whole, x, y);
+    if width > 32 {
+        return refused(state, refusal::TOO_WIDE);
     }
-    let place = state.literals as usize;
-    let count = parts::write_without(&mut literals[place..], x, literal);
-    let next = adding::add_clause(ends, state, count as u16);
-    let answer = StepAnswer::Accepted;
-    Stepped {
-        state: next,
-        answer,
+    if tests::clashes(&whole[..width]) {
+        return refused(state, refusal::COMPLEMENTARY);
     }
+    add_one(&whole[..width], literals, ends, sets, kinds, state)
 }
 
 // The two parts of a fork as new clauses, with the new variable, whose set is given.
 pub fn add_parts(
-    x: Held,
+    x: &[i16],
     left: u32,
     right: u32,
     set: u64,
@@ -105,10 +92,10 @@ pub fn add_parts(
     kinds: &mut [u8],
     state: State,
 ) -> Stepped
-    requires { ⌜ Holding (tablesOf (now literals) (now ends) (now sets) (now kinds)) state ⌝ }
+    requires { ⌜ Holding (tablesOf (now literals) (now ends) (now sets) (now kinds)) state × (length (now x) ≤ widthLimit) ⌝ }
     ensures { λ r. ⌜ After (tablesOf (now (literals .entry)) (now (ends .entry)) (now (sets .entry)) (now (kinds .entry))) state
         (fitted (modelIn (tablesOf (now (literals .entry)) (now (ends .entry)) (now (sets .entry)) (now (kinds .entry))) state)
-        (Two (pick left (clauseOf x) ++ (pos (suc (state .variables .0)) ∷ [])) (pick right (clauseOf x) ++ (negsuc (state .variables .0) ∷ [])) set))
+        (Two (pick left (now (x .entry)) ++ (pos (suc (state .variables .0)) ∷ [])) (pick right (now (x .entry)) ++ (negsuc (state .variables .0) ∷ [])) set))
         (tablesOf (now (literals .exit)) (now (ends .exit)) (now (sets .exit)) (now (kinds .exit))) r ⌝ }
 {
     let first = parts::part_length(x, left) + 1;

@@ -1,6 +1,4 @@
 // Clauses by number.
-use clauses::held;
-use clauses::held::Held;
 use tables::ClauseNumber;
 use tables::State;
 use tables::entries;
@@ -8,7 +6,6 @@ ghost use mathlib.Core.Path.{_≡_};
 ghost use Prim.Native.Nat.{_-_, _≤_, _<_};
 ghost use lib.ListN.{length};
 ghost use Rattle.dqbf.specs.Limits.{widthLimit};
-ghost use Rattle.clauses.specs.Held.{clauseOf};
 ghost use Rattle.tables.specs.Tables.{stretch, entry};
 ghost use Rattle.rules.specs.Clauses.{isUnknown, Ranged};
 
@@ -23,11 +20,13 @@ pub fn is_unknown(state: State, clause: ClauseNumber) -> bool
     count.0 < clause.0
 }
 
-// The clause with a number, by value.
-pub fn clause_at(literals: &[i16], ends: &[u16], clause: ClauseNumber) -> Held
+// The clause with a number: a part of the literals.
+pub fn clause_at<'a>(literals: &'a [i16], ends: &[u16], clause: ClauseNumber) -> &'a [i16]
     requires { ⌜ Ranged (now literals) (now ends) (clause .0) ⌝ }
-    ensures { λ r. ⌜ clauseOf r ≡ stretch (entry (now (ends .entry)) (clause .0 - 1)) (entry (now (ends .entry)) (clause .0)) (now (literals .entry)) ⌝ }
+    ensures { λ r. ⌜ now r ≡ stretch (entry (now (ends .entry)) (clause .0 - 1)) (entry (now (ends .entry)) (clause .0)) (now (literals .entry)) ⌝ }
 {
     let range = entries::clause_range(ends, clause);
-    held::held_clause(literals, range.start, range.end)
+    let start = range.start;
+    let end = range.end;
+    &literals[start..end]
 }

@@ -3,9 +3,9 @@ use crate::clause;
 use additions::Stepped;
 use additions::adding;
 use additions::refusal;
-use clauses::held;
 use clauses::parts;
 use clauses::sets as dependencies;
+use clauses::tests;
 use dqbf::literal;
 use dqbf::sets as words;
 use tables::ClauseNumber;
@@ -45,15 +45,17 @@ pub fn resolve(
     let negative = literal::negated(positive);
     let x = clause::clause_at(literals, ends, first);
     let y = clause::clause_at(literals, ends, second);
-    if !held::holds(x, positive) {
+    if !tests::holds(x, positive) {
         return adding::refused(state, refusal::NOT_IN_CLAUSE);
     }
-    if !held::holds(y, negative) {
+    if !tests::holds(y, negative) {
         return adding::refused(state, refusal::NOT_IN_CLAUSE);
     }
-    let left = parts::held_without(x, positive);
-    let right = parts::held_without(y, negative);
-    adding::add_join(left, right, literals, ends, sets, kinds, state)
+    let mut left = [0i16; 32];
+    let n = parts::write_without(&mut left, x, positive);
+    let mut right = [0i16; 32];
+    let m = parts::write_without(&mut right, y, negative);
+    adding::add_join(&left[..n], &right[..m], literals, ends, sets, kinds, state)
 }
 
 // Universal reduction: 21, 22, 26, 27, 25.
@@ -77,7 +79,7 @@ pub fn reduce(
     }
     let reduced = literal::narrowed(value);
     let x = clause::clause_at(literals, ends, number);
-    if !held::holds(x, reduced) {
+    if !tests::holds(x, reduced) {
         return adding::refused(state, refusal::NOT_IN_CLAUSE);
     }
     let variable = VariableNumber(literal::variable_of(reduced) as u32);
@@ -85,13 +87,14 @@ pub fn reduce(
         return adding::refused(state, refusal::NOT_UNIVERSAL);
     }
     let set = entries::set_of(sets, variable);
-    let rest = parts::held_without(x, reduced);
+    let mut rest = [0i16; 32];
+    let n = parts::write_without(&mut rest, x, reduced);
     let variables = state.variables;
     let used = variables.0 as usize;
-    if dependencies::reads(rest, set, &sets[..used]) {
+    if dependencies::reads(&rest[..n], set, &sets[..used]) {
         return adding::refused(state, refusal::READ_BY_ANOTHER);
     }
-    adding::add_without(x, reduced, literals, ends, sets, kinds, state)
+    adding::add_one(&rest[..n], literals, ends, sets, kinds, state)
 }
 
 // Fork: 21, 28, 29, 25.
@@ -129,5 +132,17 @@ pub fn fork(
         return adding::refused(state, refusal::COMPARABLE);
     }
     let set = words::common(first, second);
-    adding::add_parts(x, left, right, set, literals, ends, sets, kinds, state)
+    let mut source = [0i16; 32];
+    let n = parts::write_clause(&mut source, x);
+    adding::add_parts(
+        &source[..n],
+        left,
+        right,
+        set,
+        literals,
+        ends,
+        sets,
+        kinds,
+        state,
+    )
 }

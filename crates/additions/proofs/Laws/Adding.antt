@@ -27,8 +27,6 @@ use Rattle.dqbf.proofs.Laws.Models.{fits-in}
 use Rattle.tables.specs.Tables.{Tables, tablesOf, modelIn}
 use Rattle.tables.specs.Spread.{spread, stateOf}
 use Rattle.tables.specs.Adding.{stored, clauseEnded, variableAdded, stepCounted, full, RoomFor}
-use Rattle.clauses.specs.Join.{summaryOf}
-use Rattle.clauses.specs.declared.join.JoinSummary.{JoinSummary}
 use Rattle.tables.specs.declared.State.{State}
 use Rattle.tables.proofs.Laws.Spread.{model-held, state-held}
 use Rattle.tables.proofs.Laws.Adding.{one-clause, two-clauses, room-told, room-one, room-two, step-room}
@@ -140,19 +138,20 @@ module _ (t : Tables) (s : State) (h : Holding t s) where
 
   -- ---- the join
 
-  module _ (C D : Clause) {sum : JoinSummary} (q : sum ≡ summaryOf C D) where
-    pub join-wide : {r : Stepped} → widthLimit < sum .width → r ≡ record { state = s; answer = Refused 24 } → After t s (joined (modelIn t s) C D) t r
-    join-wide w p = after-refused (joined (modelIn t s) C D) (refusal 24) (joined-24 (modelIn t s) C D (rw q at w)) p
+  module _ (C D : Clause) {w : ℕ} (width : w ≡ length (join C D)) where
+    pub join-wide : {r : Stepped} → widthLimit < w → r ≡ record { state = s; answer = Refused 24 } → After t s (joined (modelIn t s) C D) t r
+    join-wide h p = after-refused (joined (modelIn t s) C D) (refusal 24) (joined-24 (modelIn t s) C D (rw width at h)) p
 
-    module _ (narrow : sum .width ≤ widthLimit) where
-      pub join-clashes : {r : Stepped} → sum .clashes ≡ true → r ≡ record { state = s; answer = Refused 23 } → After t s (joined (modelIn t s) C D) t r
-      join-clashes w p = after-refused (joined (modelIn t s) C D) (refusal 23) (joined-23 (modelIn t s) C D (rw q at narrow) (rw q at w)) p
+    module _ (narrow : w ≤ widthLimit) {J : Clause} (whole : J ≡ join C D) {b : Bool} (clash : b ≡ clashes J) where
+      pub join-clashes : {r : Stepped} → b ≡ true → r ≡ record { state = s; answer = Refused 23 } → After t s (joined (modelIn t s) C D) t r
+      join-clashes h p =
+          after-refused (joined (modelIn t s) C D) (refusal 23) (joined-23 (modelIn t s) C D (rw width at narrow) (sym (ap clashes whole) ∙ sym clash ∙ h)) p
 
-      pub join-fitted : sum .clashes ≡ false → joined (modelIn t s) C D ≡ fitted (modelIn t s) (One (join C D))
-      join-fitted calm = joined-fitted (modelIn t s) C D (rw q at narrow) (rw q at calm)
-
-    pub join-width : sum .width ≡ length (join C D)
-    join-width = rw q
+      pub join-added : {t′ : Tables} {r : Stepped} → b ≡ false → After t s (fitted (modelIn t s) (One J)) t′ r → After t s (joined (modelIn t s) C D) t′ r
+      join-added calm e =
+          e ∙ ap (examined t (modelIn t s))
+          (ap (λ (K : Clause). fitted (modelIn t s) (One K)) whole
+          ∙ sym (joined-fitted (modelIn t s) C D (rw width at narrow) (sym (ap clashes whole) ∙ sym clash ∙ calm)))
 
 -- ---- two clauses and a variable
 

@@ -8,7 +8,7 @@ use native.Mathlib.Omega.{arith}
 use borrow.Author.Tests.{eq-eqb, ne-eqb}
 use lib.Dec.{eqb, ltb}
 use lib.IntN.{ℤ, pos, negsuc, negℤ, natAbs}
-use lib.ListN.{length, take}
+use lib.ListN.{length, take, drop, length-take}
 use Rattle.dqbf.specs.Limits.{tables, widthLimit, literalRange}
 use Rattle.dqbf.specs.Refusal.{refusal}
 use Rattle.dqbf.specs.Literal.{Clause, _∈_, literalIn, holds, without, join, clashes, pick, covers}
@@ -18,12 +18,14 @@ use Rattle.dqbf.specs.Record.{resolution, reduction, fork}
 use Rattle.dqbf.specs.Rules.{unknown, clauseAt, noRoom, resolvent, resolving, reads, reducing, forking}
 use Rattle.dqbf.specs.Run.{Examined, examine}
 use Rattle.dqbf.proofs.Laws.Tests.{or-no, or-left, or-right, no-or, eqb-same, ltb-no}
-use Rattle.dqbf.proofs.Laws.Clauses.{holds-in}
+use Rattle.dqbf.proofs.Laws.Clauses.{holds-in, without-short}
 use Rattle.dqbf.proofs.Laws.Outcomes.{resolution-first, resolution-second, resolution-22, resolution-24, resolution-23, resolution-25, resolution-accepted, reduction-21, reduction-22, reduction-26, reduction-27, reduction-25, reduction-accepted, fork-21, fork-28, fork-29, fork-25, fork-accepted}
 use Rattle.tables.specs.Tables.{Tables, modelIn, stretch, entry}
 use Rattle.tables.specs.declared.State.{State}
 use Rattle.clauses.specs.Sets.{readsIn, clauseSetIn}
+use Rattle.clauses.specs.Writing.{Written}
 use Rattle.clauses.proofs.Laws.Sets.{model-reads, model-clause-set}
+use Rattle.clauses.proofs.Laws.Writing.{written-front}
 use Rattle.tables.specs.Spread.{setRow}
 use Rattle.tables.proofs.Laws.Adding.{variable-count}
 use Rattle.tables.proofs.Laws.Held.{sets-is}
@@ -88,6 +90,16 @@ module _ (t : Tables) (s : State) (h : Holding t s) where
 
     pub ranged-clause : {C : Clause} → C ≡ stretch (entry (t .ends) (c - 1)) (entry (t .ends) c) (t .literals) → C ≡ clauseAt (modelIn t s) c
     ranged-clause e = e ∙ sym (clause-at t s (h .lent) (h .formed) c some low)
+
+    -- a clause has at most 32 literals, with or without one of them
+    pub ranged-narrow : {C : Clause} → C ≡ stretch (entry (t .ends) (c - 1)) (entry (t .ends) c) (t .literals) → length C ≤ widthLimit
+    ranged-narrow e =
+        let from = entry (t .ends) (c - 1) in
+        let to = entry (t .ends) c in
+        rw e (omega (arith, length-take (to - from) (drop from (t .literals)), ranged .narrow))
+
+    pub reduced-narrow : (C : Clause) → C ≡ stretch (entry (t .ends) (c - 1)) (entry (t .ends) c) (t .literals) → (l : ℤ) → length (without l C) ≤ widthLimit
+    reduced-narrow C e l = omega (arith, without-short l C, ranged-narrow e)
 
     -- a record's literal in this clause
     pub in-clause : {C : Clause} → C ≡ clauseAt (modelIn t s) c → (z : ℤ) {b : Bool} → b ≡ holds (literalIn z) C → holds z (clauseAt (modelIn t s) c) ≡ b
@@ -172,6 +184,10 @@ module _ (t : Tables) (s : State) (h : Holding t s) (c d : ℕ) (z : ℤ) {f g :
             resolution-joined (modelIn t s) c d z (known-is t s h c told known) (known-is t s h d told′ known′) (rw (first-in, not-false a held, second-in, not-false b k))
             ∙ rw (isA, isB, q, P-is, X-is, Y-is)
 
+-- a clause that was written to a local copy is as narrow there
+pub front-narrow : {ys xs zs : Clause} {n k : ℕ} → Written ys xs zs n → length ys ≤ k → length (take n zs) ≤ k
+front-narrow w h = rw (written-front w) h
+
 -- ---- universal reduction
 
 module _ (t : Tables) (s : State) (h : Holding t s) where
@@ -227,7 +243,7 @@ module _ (t : Tables) (s : State) (h : Holding t s) (c : ℕ) (z : ℤ) {f : Boo
           reduce-read q e =
               after-refused t s h U (refusal 27) (reduction-27 tables (modelIn t s) c z (known-is t s h c told known) there (rw kind-is (eq-eqb k 1 universal)) (read-is ∙ q)) e
 
-          pub reduce-fitted : b ≡ false → U ≡ fitted (modelIn t s) (One (without P X))
+          reduce-fitted : b ≡ false → U ≡ fitted (modelIn t s) (One (without P X))
           unfolding fitted reducing
           reduce-fitted q = rw (L-is, C-is) (room (noRoom tables (modelIn t s) (reducing (clauseAt (modelIn t s) c) z)) refl)
             where
@@ -238,6 +254,9 @@ module _ (t : Tables) (s : State) (h : Holding t s) (c : ℕ) (z : ℤ) {f : Boo
                   → U ≡ fitted (modelIn t s) (One (without z (clauseAt (modelIn t s) c)))
               room true e = rw e (reduction-25 tables (modelIn t s) c z (known-is t s h c told known) there u (read-is ∙ q) e)
               room false e = rw e (reduction-accepted tables (modelIn t s) c z (known-is t s h c told known) there u (read-is ∙ q) e)
+
+          pub reduce-added : b ≡ false → U ≡ fitted (modelIn t s) (One A)
+          reduce-added q = reduce-fitted q ∙ ap (λ (K : Clause). fitted (modelIn t s) (One K)) (sym isA)
 
 -- ---- fork
 
@@ -283,7 +302,7 @@ module _ (t : Tables) (s : State) (h : Holding t s) (c left right : ℕ) {f : Bo
       pub fork-around : {r : Stepped} → q ≡ true → r ≡ record { state = s; answer = Refused 29 } → After t s K t r
       fork-around b e = comparable (or-right p q b) e
 
-      pub fork-fitted : p ≡ false → q ≡ false → {w : Set} → w ≡ common x y
+      fork-fitted : p ≡ false → q ≡ false → {w : Set} → w ≡ common x y
           → K ≡ fitted (modelIn t s) (Two (pick left X ++ (pos (suc (s .variables .0)) ∷ [])) (pick right X ++ (negsuc (s .variables .0) ∷ [])) w)
       unfolding fitted forking
       fork-fitted u v isW =
@@ -301,3 +320,8 @@ module _ (t : Tables) (s : State) (h : Holding t s) (c left right : ℕ) {f : Bo
               → K ≡ fitted (modelIn t s) (forking (modelIn t s) (pick left (clauseAt (modelIn t s) c)) (pick right (clauseAt (modelIn t s) c)))
           room true e = rw e (fork-25 tables (modelIn t s) c left right (known-is t s h c told known) covered-whole apart e)
           room false e = rw e (fork-accepted tables (modelIn t s) c left right (known-is t s h c told known) covered-whole apart e)
+
+      -- the same, from a copy of the clause
+      pub fork-added : p ≡ false → q ≡ false → {w : Set} → w ≡ common x y → {A : Clause} → A ≡ X
+          → K ≡ fitted (modelIn t s) (Two (pick left A ++ (pos (suc (s .variables .0)) ∷ [])) (pick right A ++ (negsuc (s .variables .0) ∷ [])) w)
+      fork-added u v isW isA = rw isA (fork-fitted u v isW)

@@ -5,91 +5,92 @@ use lib.Seq.{length-take-le}
 use mir.Facts.{toZ-ofZ}
 use Rattle.dqbf.proofs.Laws.Signed.{kept16}
 use Rattle.tables.proofs.Laws.Formed.{long-is, formed-is}
-use Rattle.rules.proofs.Laws.Rules.{ranged, reduce-unknown, reduce-absent, reduce-other, reduce-read, reduce-fitted}
+use Rattle.clauses.proofs.Laws.Writing.{written-front, written-length, written-within}
+use Rattle.rules.proofs.Laws.Rules.{ranged, reduced-narrow, front-narrow, reduce-unknown, reduce-absent, reduce-other, reduce-read, reduce-added}
 use Rattle.rules.proofs.rules.reduce.Statement.{statement}
 use Rattle.rules.proofs.rules.reduce.Tie as tie
 use Rattle.rules.proofs.rules.reduce.Reads as reads
 use Rattle.rules.proofs.rules.reduce.Lts as lts
-use Rattle.clauses.proofs.held.holds.Reads as holds-reads
-use Rattle.clauses.proofs.parts.held_without.Reads as held-without-reads
+use Rattle.additions.proofs.adding.add_one.Reads as add-one-reads
+use Rattle.additions.proofs.adding.refused.Reads as refused-reads
+use Rattle.clauses.proofs.parts.write_without.Reads as write-without-reads
 use Rattle.clauses.proofs.sets.reads.Reads as reads-reads
+use Rattle.clauses.proofs.tests.holds.Reads as holds-reads
 use Rattle.dqbf.proofs.literal.narrowed.Reads as narrowed-reads
 use Rattle.dqbf.proofs.literal.variable_of.Reads as variable-of-reads
-use Rattle.additions.proofs.adding.add_without.Reads as add-without-reads
-use Rattle.additions.proofs.adding.refused.Reads as refused-reads
 use Rattle.rules.proofs.clause.clause_at.Reads as clause-at-reads
 use Rattle.rules.proofs.clause.is_unknown.Reads as is-unknown-reads
 use Rattle.tables.proofs.entries.kind_of.Reads as kind-of-reads
 use Rattle.tables.proofs.entries.set_of.Reads as set-of-reads
 
--- src/rules.rt:66:8
+-- src/rules.rt:77:8
 is-unknown-requires : tie.Need-is-unknown-requires
 is-unknown-requires c κs = search needs
 
--- src/rules.rt:67:9
+-- src/rules.rt:78:9
 refused-requires : tie.Need-refused-requires
 refused-requires c κs = search needs
 
--- src/rules.rt:67:9
+-- src/rules.rt:78:9
 returns : tie.Need-returns
 returns c = reduce-unknown _ _ (c .before .before .before .before .before .before .pre) _ _ (c .before .before .is-unknown .ensures) (c .before .if1 .taken) (c .refused .ensures)
 
--- src/rules.rt:69:9
+-- src/rules.rt:80:9
 narrowed-requires : tie.Need-narrowed-requires
 narrowed-requires c κs = search needs
 
--- src/rules.rt:70:9
+-- src/rules.rt:81:9
 clause-at-requires : tie.Need-clause-at-requires
 clause-at-requires c κs = ranged _ _ (c .before .before .before .before .before .before .before .before .pre) _ (c .before .before .before .before .is-unknown .ensures) (c .before .before .before .if1 .left)
 
--- src/rules.rt:71:9
+-- src/rules.rt:82:9
 holds-requires : tie.Need-holds-requires
 holds-requires c κs = search needs
 
--- src/rules.rt:72:9
+-- src/rules.rt:83:9
 refused-requires-2 : tie.Need-refused-requires-2
 refused-requires-2 c κs = search needs
 
--- src/rules.rt:72:9
+-- src/rules.rt:83:9
 same-length : tie.Need-same-length
-same-length c = refl
+same-length c = search needs
 
--- src/rules.rt:72:9
+-- src/rules.rt:83:9
 same-length-2 : tie.Need-same-length-2
-same-length-2 c = refl
+same-length-2 c = search needs
 
--- src/rules.rt:72:9
+-- src/rules.rt:83:9
 returns-2 : tie.Need-returns-2
 returns-2 c =
     let p = rw (toZ-ofZ (c .before .before .before .before .before .before .before .before .before .before .before .before .fits .value)) at (c .before .before .before .before .before .before .narrowed .ensures) in
     let a = rw (kept16 {z = c .before .before .before .before .before .before .narrowed .result} (c .before .before .before .before .before .before .narrowed .ok)) at (c .before .before .holds .ensures) in
     reduce-absent _ _ (c .before .before .before .before .before .before .before .before .before .before .before .before .pre) _ _ (c .before .before .before .before .before .before .before .before .is-unknown .ensures) (c .before .before .before .before .before .before .before .if1 .left) (c .before .before .before .clause-at .ensures) p a (c .before .if2 .taken) (c .refused2 .ensures)
 
--- src/rules.rt:74:35
+-- src/rules.rt:85:35
 variable-of-requires : tie.Need-variable-of-requires
 variable-of-requires c κs = search needs
 
--- src/rules.rt:74:35
-cast-t23 : tie.Need-cast-t23
-cast-t23 c = search needs
+-- src/rules.rt:85:35
+cast-t24 : tie.Need-cast-t24
+cast-t24 c = search needs
 
--- src/rules.rt:75:8
+-- src/rules.rt:86:8
 kind-of-requires : tie.Need-kind-of-requires
 kind-of-requires c κs = search needs
 
--- src/rules.rt:76:9
+-- src/rules.rt:87:9
 refused-requires-3 : tie.Need-refused-requires-3
 refused-requires-3 c κs = search needs
 
--- src/rules.rt:76:9
+-- src/rules.rt:87:9
 same-length-3 : tie.Need-same-length-3
-same-length-3 c = refl
+same-length-3 c = search needs
 
--- src/rules.rt:76:9
+-- src/rules.rt:87:9
 same-length-4 : tie.Need-same-length-4
-same-length-4 c = refl
+same-length-4 c = search needs
 
--- src/rules.rt:76:9
+-- src/rules.rt:87:9
 returns-3 : tie.Need-returns-3
 returns-3 c =
     let p = rw (toZ-ofZ (c .before .before .before .before .before .before .before .before .before .before .before .before .before .before .before .fits .value)) at (c .before .before .before .before .before .before .before .before .before .narrowed .ensures) in
@@ -97,69 +98,89 @@ returns-3 c =
     let k = rw (c .before .before .before .variable-of .ensures, kept16 {z = c .before .before .before .before .before .before .before .before .before .narrowed .result} (c .before .before .before .before .before .before .before .before .before .narrowed .ok)) at (c .before .before .kind-of .ensures) in
     reduce-other _ _ (c .before .before .before .before .before .before .before .before .before .before .before .before .before .before .before .pre) _ _ (c .before .before .before .before .before .before .before .before .before .before .before .is-unknown .ensures) (c .before .before .before .before .before .before .before .before .before .before .if1 .left) (c .before .before .before .before .before .before .clause-at .ensures) p a (c .before .before .before .before .if2 .left) k (c .before .if3 .taken) (c .refused3 .ensures)
 
--- src/rules.rt:78:9
+-- src/rules.rt:89:9
 set-of-requires : tie.Need-set-of-requires
 set-of-requires c κs = search needs
 
--- src/rules.rt:79:9
-held-without-requires : tie.Need-held-without-requires
-held-without-requires c κs = search needs
+-- src/rules.rt:91:34
+slice-aggregate-write-without : tie.Need-slice-aggregate-write-without
+slice-aggregate-write-without c = search needs
 
--- src/rules.rt:81:16
+-- src/rules.rt:91:9
+write-without-requires : tie.Need-write-without-requires
+write-without-requires c κs = reduced-narrow _ _ (c .before .before .before .before .before .before .before .before .before .before .before .before .before .before .before .before .pre) _ (c .before .before .before .before .before .before .before .before .before .before .before .before .is-unknown .ensures) (c .before .before .before .before .before .before .before .before .before .before .before .if1 .left) _ (c .before .before .before .before .before .before .before .clause-at .ensures) _
+
+-- src/rules.rt:93:16
 cast-used : tie.Need-cast-used
 cast-used c = search needs
 
--- src/rules.rt:82:39
-slice-aggregate-reads : tie.Need-slice-aggregate-reads
-slice-aggregate-reads c = sym (length-take-le _ (c .before .before .before .before .before .before .before .before .before .before .before .before .before .before .before .before .before .before .before .args .sets .now) (omega (arith, formed-is _ _ (c .before .before .before .before .before .before .before .before .before .before .before .before .before .before .before .before .before .before .before .pre .formed) .counts .variables, long-is _ (c .before .before .before .before .before .before .before .before .before .before .before .before .before .before .before .before .before .before .before .pre .lent) .sets)))
+-- src/rules.rt:94:28
+array-share-prefix-rest : tie.Need-array-share-prefix-rest
+array-share-prefix-rest c = written-within (c .before .before .before .write-without .ensures)
 
--- src/rules.rt:82:8
+-- src/rules.rt:94:28
+slice-aggregate-reads : tie.Need-slice-aggregate-reads
+slice-aggregate-reads c = written-length (c .before .before .before .before .write-without .ensures)
+
+-- src/rules.rt:94:45
+slice-aggregate-reads-2 : tie.Need-slice-aggregate-reads-2
+slice-aggregate-reads-2 c = sym (length-take-le _ (c .before .before .before .before .before .before .before .before .before .before .before .before .before .before .before .before .before .before .before .before .before .before .args .sets .now) (omega (arith, formed-is _ _ (c .before .before .before .before .before .before .before .before .before .before .before .before .before .before .before .before .before .before .before .before .before .before .pre .formed) .counts .variables, long-is _ (c .before .before .before .before .before .before .before .before .before .before .before .before .before .before .before .before .before .before .before .before .before .before .pre .lent) .sets)))
+
+-- src/rules.rt:94:8
 reads-requires : tie.Need-reads-requires
 reads-requires c κs = search needs
 
--- src/rules.rt:83:9
+-- src/rules.rt:95:9
 refused-requires-4 : tie.Need-refused-requires-4
 refused-requires-4 c κs = search needs
 
--- src/rules.rt:83:9
+-- src/rules.rt:95:9
 same-length-5 : tie.Need-same-length-5
-same-length-5 c = refl
+same-length-5 c = search needs
 
--- src/rules.rt:83:9
+-- src/rules.rt:95:9
 same-length-6 : tie.Need-same-length-6
-same-length-6 c = refl
+same-length-6 c = search needs
 
--- src/rules.rt:83:9
+-- src/rules.rt:95:9
 returns-4 : tie.Need-returns-4
 returns-4 c =
-    let p = rw (toZ-ofZ (c .before .before .before .before .before .before .before .before .before .before .before .before .before .before .before .before .before .before .before .before .before .before .fits .value)) at (c .before .before .before .before .before .before .before .before .before .before .before .before .before .before .before .before .narrowed .ensures) in
-    let a = rw (kept16 {z = c .before .before .before .before .before .before .before .before .before .before .before .before .before .before .before .before .narrowed .result} (c .before .before .before .before .before .before .before .before .before .before .before .before .before .before .before .before .narrowed .ok)) at (c .before .before .before .before .before .before .before .before .before .before .before .before .holds .ensures) in
-    let k = rw (c .before .before .before .before .before .before .before .before .before .before .variable-of .ensures, kept16 {z = c .before .before .before .before .before .before .before .before .before .before .before .before .before .before .before .before .narrowed .result} (c .before .before .before .before .before .before .before .before .before .before .before .before .before .before .before .before .narrowed .ok)) at (c .before .before .before .before .before .before .before .before .before .kind-of .ensures) in
-    let w = rw (c .before .before .before .before .before .before .before .before .before .before .variable-of .ensures, kept16 {z = c .before .before .before .before .before .before .before .before .before .before .before .before .before .before .before .before .narrowed .result} (c .before .before .before .before .before .before .before .before .before .before .before .before .before .before .before .before .narrowed .ok)) at (c .before .before .before .before .before .before .before .set-of .ensures) in
-    let e = rw (kept16 {z = c .before .before .before .before .before .before .before .before .before .before .before .before .before .before .before .before .narrowed .result} (c .before .before .before .before .before .before .before .before .before .before .before .before .before .before .before .before .narrowed .ok)) at (c .before .before .before .before .before .before .held-without .ensures) in
-    reduce-read _ _ (c .before .before .before .before .before .before .before .before .before .before .before .before .before .before .before .before .before .before .before .before .before .before .pre) _ _ (c .before .before .before .before .before .before .before .before .before .before .before .before .before .before .before .before .before .before .is-unknown .ensures) (c .before .before .before .before .before .before .before .before .before .before .before .before .before .before .before .before .before .if1 .left) (c .before .before .before .before .before .before .before .before .before .before .before .before .before .clause-at .ensures) p a (c .before .before .before .before .before .before .before .before .before .before .before .if2 .left) k (c .before .before .before .before .before .before .before .before .if3 .left) w e refl (c .before .before .reads .ensures) (c .before .if4 .taken) (c .refused4 .ensures)
+    let p = rw (toZ-ofZ (c .before .before .before .before .before .before .before .before .before .before .before .before .before .before .before .before .before .before .before .before .before .before .before .before .before .fits .value)) at (c .before .before .before .before .before .before .before .before .before .before .before .before .before .before .before .before .before .before .before .narrowed .ensures) in
+    let a = rw (kept16 {z = c .before .before .before .before .before .before .before .before .before .before .before .before .before .before .before .before .before .before .before .narrowed .result} (c .before .before .before .before .before .before .before .before .before .before .before .before .before .before .before .before .before .before .before .narrowed .ok)) at (c .before .before .before .before .before .before .before .before .before .before .before .before .before .before .before .holds .ensures) in
+    let k = rw (c .before .before .before .before .before .before .before .before .before .before .before .before .before .variable-of .ensures, kept16 {z = c .before .before .before .before .before .before .before .before .before .before .before .before .before .before .before .before .before .before .before .narrowed .result} (c .before .before .before .before .before .before .before .before .before .before .before .before .before .before .before .before .before .before .before .narrowed .ok)) at (c .before .before .before .before .before .before .before .before .before .before .before .before .kind-of .ensures) in
+    let w = rw (c .before .before .before .before .before .before .before .before .before .before .before .before .before .variable-of .ensures, kept16 {z = c .before .before .before .before .before .before .before .before .before .before .before .before .before .before .before .before .before .before .before .narrowed .result} (c .before .before .before .before .before .before .before .before .before .before .before .before .before .before .before .before .before .before .before .narrowed .ok)) at (c .before .before .before .before .before .before .before .before .before .before .set-of .ensures) in
+    let e = written-front (rw (kept16 {z = c .before .before .before .before .before .before .before .before .before .before .before .before .before .before .before .before .before .before .before .narrowed .result} (c .before .before .before .before .before .before .before .before .before .before .before .before .before .before .before .before .before .before .before .narrowed .ok)) at (c .before .before .before .before .before .before .before .before .write-without .ensures)) in
+    reduce-read _ _ (c .before .before .before .before .before .before .before .before .before .before .before .before .before .before .before .before .before .before .before .before .before .before .before .before .before .pre) _ _ (c .before .before .before .before .before .before .before .before .before .before .before .before .before .before .before .before .before .before .before .before .before .is-unknown .ensures) (c .before .before .before .before .before .before .before .before .before .before .before .before .before .before .before .before .before .before .before .before .if1 .left) (c .before .before .before .before .before .before .before .before .before .before .before .before .before .before .before .before .clause-at .ensures) p a (c .before .before .before .before .before .before .before .before .before .before .before .before .before .before .if2 .left) k (c .before .before .before .before .before .before .before .before .before .before .before .if3 .left) w e refl (c .before .before .reads .ensures) (c .before .if4 .taken) (c .refused4 .ensures)
 
--- src/rules.rt:85:5
-add-without-requires : tie.Need-add-without-requires
-add-without-requires c κs = search needs
+-- src/rules.rt:97:21
+array-share-prefix-rest-2 : tie.Need-array-share-prefix-rest-2
+array-share-prefix-rest-2 c = written-within (c .before .before .before .before .before .before .before .write-without .ensures)
 
--- src/rules.rt:59:1
+-- src/rules.rt:97:21
+slice-aggregate-add-one : tie.Need-slice-aggregate-add-one
+slice-aggregate-add-one c = written-length (c .before .before .before .before .before .before .before .before .write-without .ensures)
+
+-- src/rules.rt:97:5
+add-one-requires : tie.Need-add-one-requires
+add-one-requires c κs = (c .before .before .before .before .before .before .before .before .before .before .before .before .before .before .before .before .before .before .before .before .before .before .before .before .before .before .before .pre, front-narrow (c .before .before .before .before .before .before .before .before .before .before .write-without .ensures) (reduced-narrow _ _ (c .before .before .before .before .before .before .before .before .before .before .before .before .before .before .before .before .before .before .before .before .before .before .before .before .before .before .before .pre) _ (c .before .before .before .before .before .before .before .before .before .before .before .before .before .before .before .before .before .before .before .before .before .before .before .is-unknown .ensures) (c .before .before .before .before .before .before .before .before .before .before .before .before .before .before .before .before .before .before .before .before .before .before .if1 .left) _ (c .before .before .before .before .before .before .before .before .before .before .before .before .before .before .before .before .before .before .clause-at .ensures) _))
+
+-- src/rules.rt:62:1
 same-length-7 : tie.Need-same-length-7
-same-length-7 c = c .before .before .before .add-without .kept .1 .1 .0
+same-length-7 c = search needs
 
--- src/rules.rt:59:1
+-- src/rules.rt:62:1
 same-length-8 : tie.Need-same-length-8
-same-length-8 c = c .before .before .before .add-without .kept .1 .1 .1 .0
+same-length-8 c = search needs
 
--- src/rules.rt:59:1
+-- src/rules.rt:62:1
 returns-5 : tie.Need-returns-5
 returns-5 c =
-    let p = rw (toZ-ofZ (c .before .before .before .before .before .before .before .before .before .before .before .before .before .before .before .before .before .before .before .before .before .before .before .before .before .before .before .fits .value)) at (c .before .before .before .before .before .before .before .before .before .before .before .before .before .before .before .before .before .before .before .before .before .narrowed .ensures) in
-    let a = rw (kept16 {z = c .before .before .before .before .before .before .before .before .before .before .before .before .before .before .before .before .before .before .before .before .before .narrowed .result} (c .before .before .before .before .before .before .before .before .before .before .before .before .before .before .before .before .before .before .before .before .before .narrowed .ok)) at (c .before .before .before .before .before .before .before .before .before .before .before .before .before .before .before .before .before .holds .ensures) in
-    let k = rw (c .before .before .before .before .before .before .before .before .before .before .before .before .before .before .before .variable-of .ensures, kept16 {z = c .before .before .before .before .before .before .before .before .before .before .before .before .before .before .before .before .before .before .before .before .before .narrowed .result} (c .before .before .before .before .before .before .before .before .before .before .before .before .before .before .before .before .before .before .before .before .before .narrowed .ok)) at (c .before .before .before .before .before .before .before .before .before .before .before .before .before .before .kind-of .ensures) in
-    let w = rw (c .before .before .before .before .before .before .before .before .before .before .before .before .before .before .before .variable-of .ensures, kept16 {z = c .before .before .before .before .before .before .before .before .before .before .before .before .before .before .before .before .before .before .before .before .before .narrowed .result} (c .before .before .before .before .before .before .before .before .before .before .before .before .before .before .before .before .before .before .before .before .before .narrowed .ok)) at (c .before .before .before .before .before .before .before .before .before .before .before .before .set-of .ensures) in
-    let e = rw (kept16 {z = c .before .before .before .before .before .before .before .before .before .before .before .before .before .before .before .before .before .before .before .before .before .narrowed .result} (c .before .before .before .before .before .before .before .before .before .before .before .before .before .before .before .before .before .before .before .before .before .narrowed .ok)) at (c .before .before .before .before .before .before .before .before .before .before .before .held-without .ensures) in
-    rw (reduce-fitted _ _ (c .before .before .before .before .before .before .before .before .before .before .before .before .before .before .before .before .before .before .before .before .before .before .before .before .before .before .before .pre) _ _ (c .before .before .before .before .before .before .before .before .before .before .before .before .before .before .before .before .before .before .before .before .before .before .before .is-unknown .ensures) (c .before .before .before .before .before .before .before .before .before .before .before .before .before .before .before .before .before .before .before .before .before .before .if1 .left) (c .before .before .before .before .before .before .before .before .before .before .before .before .before .before .before .before .before .before .clause-at .ensures) p a (c .before .before .before .before .before .before .before .before .before .before .before .before .before .before .before .before .if2 .left) k (c .before .before .before .before .before .before .before .before .before .before .before .before .before .if3 .left) w e refl (c .before .before .before .before .before .before .before .reads .ensures) (c .before .before .before .before .before .before .if4 .left), ← kept16 {z = c .before .before .before .before .before .before .before .before .before .before .before .before .before .before .before .before .before .before .before .before .before .narrowed .result} (c .before .before .before .before .before .before .before .before .before .before .before .before .before .before .before .before .before .before .before .before .before .narrowed .ok)) (c .before .before .before .add-without .ensures)
+    let p = rw (toZ-ofZ (c .before .before .before .before .before .before .before .before .before .before .before .before .before .before .before .before .before .before .before .before .before .before .before .before .before .before .before .before .before .before .before .fits .value)) at (c .before .before .before .before .before .before .before .before .before .before .before .before .before .before .before .before .before .before .before .before .before .before .before .before .before .narrowed .ensures) in
+    let a = rw (kept16 {z = c .before .before .before .before .before .before .before .before .before .before .before .before .before .before .before .before .before .before .before .before .before .before .before .before .before .narrowed .result} (c .before .before .before .before .before .before .before .before .before .before .before .before .before .before .before .before .before .before .before .before .before .before .before .before .before .narrowed .ok)) at (c .before .before .before .before .before .before .before .before .before .before .before .before .before .before .before .before .before .before .before .before .before .holds .ensures) in
+    let k = rw (c .before .before .before .before .before .before .before .before .before .before .before .before .before .before .before .before .before .before .before .variable-of .ensures, kept16 {z = c .before .before .before .before .before .before .before .before .before .before .before .before .before .before .before .before .before .before .before .before .before .before .before .before .before .narrowed .result} (c .before .before .before .before .before .before .before .before .before .before .before .before .before .before .before .before .before .before .before .before .before .before .before .before .before .narrowed .ok)) at (c .before .before .before .before .before .before .before .before .before .before .before .before .before .before .before .before .before .before .kind-of .ensures) in
+    let w = rw (c .before .before .before .before .before .before .before .before .before .before .before .before .before .before .before .before .before .before .before .variable-of .ensures, kept16 {z = c .before .before .before .before .before .before .before .before .before .before .before .before .before .before .before .before .before .before .before .before .before .before .before .before .before .narrowed .result} (c .before .before .before .before .before .before .before .before .before .before .before .before .before .before .before .before .before .before .before .before .before .before .before .before .before .narrowed .ok)) at (c .before .before .before .before .before .before .before .before .before .before .before .before .before .before .before .before .set-of .ensures) in
+    let e = written-front (rw (kept16 {z = c .before .before .before .before .before .before .before .before .before .before .before .before .before .before .before .before .before .before .before .before .before .before .before .before .before .narrowed .result} (c .before .before .before .before .before .before .before .before .before .before .before .before .before .before .before .before .before .before .before .before .before .before .before .before .before .narrowed .ok)) at (c .before .before .before .before .before .before .before .before .before .before .before .before .before .before .write-without .ensures)) in
+    rw (reduce-added _ _ (c .before .before .before .before .before .before .before .before .before .before .before .before .before .before .before .before .before .before .before .before .before .before .before .before .before .before .before .before .before .before .before .pre) _ _ (c .before .before .before .before .before .before .before .before .before .before .before .before .before .before .before .before .before .before .before .before .before .before .before .before .before .before .before .is-unknown .ensures) (c .before .before .before .before .before .before .before .before .before .before .before .before .before .before .before .before .before .before .before .before .before .before .before .before .before .before .if1 .left) (c .before .before .before .before .before .before .before .before .before .before .before .before .before .before .before .before .before .before .before .before .before .before .clause-at .ensures) p a (c .before .before .before .before .before .before .before .before .before .before .before .before .before .before .before .before .before .before .before .before .if2 .left) k (c .before .before .before .before .before .before .before .before .before .before .before .before .before .before .before .before .before .if3 .left) w e refl (c .before .before .before .before .before .before .before .before .reads .ensures) (c .before .before .before .before .before .before .before .if4 .left)) (c .before .before .before .add-one .ensures)
 
 pub reduce-spec : {M : Type 1} → statement M
 reduce-spec =
@@ -176,22 +197,27 @@ reduce-spec =
     same-length-2
     returns-2
     variable-of-requires
-    cast-t23
+    cast-t24
     kind-of-requires
     refused-requires-3
     same-length-3
     same-length-4
     returns-3
     set-of-requires
-    held-without-requires
+    slice-aggregate-write-without
+    write-without-requires
     cast-used
+    array-share-prefix-rest
     slice-aggregate-reads
+    slice-aggregate-reads-2
     reads-requires
     refused-requires-4
     same-length-5
     same-length-6
     returns-4
-    add-without-requires
+    array-share-prefix-rest-2
+    slice-aggregate-add-one
+    add-one-requires
     same-length-7
     same-length-8
     returns-5)
