@@ -1,5 +1,5 @@
 use borrow.Author.Needs.{needs}
-use mathlib.Core.Path.{_≡_, refl, ap, sym, _∙_}
+use mathlib.Core.Path.{_≡_, ap, sym, _∙_}
 use native.Mathlib.Omega.{arith}
 use borrow.Author.Tests.{not-false}
 use lib.Seq.{length-take-le}
@@ -93,11 +93,11 @@ add-formula-clause-requires c κs =
 
 -- src/clause.rt:70:1
 same-length : tie.Need-same-length
-same-length c = search needs
+same-length c = c .before .before .before .add-formula-clause .kept .1 .1 .1 .0
 
 -- src/clause.rt:70:1
 same-length-2 : tie.Need-same-length-2
-same-length-2 c = search needs
+same-length-2 c = c .before .before .before .add-formula-clause .kept .1 .1 .1 .1 .0
 
 -- src/clause.rt:70:1
 returns-7 : tie.Need-returns-7
