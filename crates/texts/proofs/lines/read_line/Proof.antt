@@ -1,5 +1,5 @@
 use borrow.Author.Needs.{needs}
-use mathlib.Core.Path.{_≡_, ap, sym, _∙_}
+use mathlib.Core.Path.{_≡_, refl, ap, sym, _∙_}
 use native.Mathlib.Omega.{arith}
 use lib.Seq.{length-take-le}
 use Rattle.texts.proofs.Laws.OpeningLines.{malformed}
@@ -186,7 +186,7 @@ same-length-15 c = c .before .before .before .clause-line .kept .1 .1 .1 .0
 
 -- src/lines.rt:70:1
 same-length-16 : tie.Need-same-length-16
-same-length-16 c = search needs
+same-length-16 c = refl
 
 -- src/lines.rt:70:1
 returns-6 : tie.Need-returns-6
