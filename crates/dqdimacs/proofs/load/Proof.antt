@@ -22,19 +22,19 @@ refused-requires c κs = search needs
 
 -- src/lib.rt:52:9
 same-length : tie.Need-same-length
-same-length c = search needs
+same-length c = refl
 
 -- src/lib.rt:52:9
 same-length-2 : tie.Need-same-length-2
-same-length-2 c = search needs
+same-length-2 c = refl
 
 -- src/lib.rt:52:9
 same-length-3 : tie.Need-same-length-3
-same-length-3 c = search needs
+same-length-3 c = refl
 
 -- src/lib.rt:52:9
 same-length-4 : tie.Need-same-length-4
-same-length-4 c = search needs
+same-length-4 c = refl
 
 -- src/lib.rt:52:9
 returns : tie.Need-returns
@@ -50,19 +50,19 @@ refused-requires-2 c κs = search needs
 
 -- src/lib.rt:56:9
 same-length-5 : tie.Need-same-length-5
-same-length-5 c = search needs
+same-length-5 c = c .before .before .before .before .before .before .before .before .before .clear .kept .0
 
 -- src/lib.rt:56:9
 same-length-6 : tie.Need-same-length-6
-same-length-6 c = search needs
+same-length-6 c = c .before .before .before .before .before .before .before .before .before .clear .kept .1 .0
 
 -- src/lib.rt:56:9
 same-length-7 : tie.Need-same-length-7
-same-length-7 c = search needs
+same-length-7 c = c .before .before .before .before .before .before .before .before .before .clear .kept .1 .1 .0
 
 -- src/lib.rt:56:9
 same-length-8 : tie.Need-same-length-8
-same-length-8 c = search needs
+same-length-8 c = c .before .before .before .before .before .before .before .before .before .clear .kept .1 .1 .1 .0
 
 -- src/lib.rt:56:9
 returns-2 : tie.Need-returns-2

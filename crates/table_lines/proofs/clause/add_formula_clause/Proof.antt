@@ -50,7 +50,7 @@ same-length c = search needs
 
 -- src/clause.rt:43:1
 same-length-2 : tie.Need-same-length-2
-same-length-2 c = search needs
+same-length-2 c = c .before .before .before .end-clause .kept .0
 
 -- src/clause.rt:43:1
 returns : tie.Need-returns

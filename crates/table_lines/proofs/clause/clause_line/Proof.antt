@@ -1,5 +1,5 @@
 use borrow.Author.Needs.{needs}
-use mathlib.Core.Path.{_≡_, refl, ap, sym, _∙_}
+use mathlib.Core.Path.{_≡_, ap, sym, _∙_, refl}
 use native.Mathlib.Omega.{arith}
 use borrow.Author.Tests.{not-false}
 use lib.Seq.{length-take-le}
@@ -19,7 +19,7 @@ returns c = λ t r s C h q. c-late h C (c .if1 .taken)
 
 -- src/clause.rt:86:55
 slice-aggregate-insert-all : tie.Need-slice-aggregate-insert-all
-slice-aggregate-insert-all c = search needs
+slice-aggregate-insert-all c = refl
 
 -- src/clause.rt:86:9
 insert-all-requires : tie.Need-insert-all-requires
@@ -67,7 +67,7 @@ returns-4 c = λ t r s C h q. c-undeclared h C (c .before .before .before .befor
 
 -- src/clause.rt:99:27
 slice-aggregate-has-pair : tie.Need-slice-aggregate-has-pair
-slice-aggregate-has-pair c = search needs
+slice-aggregate-has-pair c = sym (c .before .before .before .before .before .before .before .before .before .before .before .before .insert-all .kept .1 .1 .0)
 
 -- src/clause.rt:99:8
 has-pair-requires : tie.Need-has-pair-requires
@@ -83,7 +83,7 @@ returns-6 c = λ t r s C h q. c-count h C (c .before .before .before .before .be
 
 -- src/clause.rt:106:35
 slice-aggregate-add-formula-clause : tie.Need-slice-aggregate-add-formula-clause
-slice-aggregate-add-formula-clause c = search needs
+slice-aggregate-add-formula-clause c = sym (c .before .before .before .before .before .before .before .before .before .before .before .before .before .before .before .before .before .before .before .insert-all .kept .1 .1 .0)
 
 -- src/clause.rt:106:9
 add-formula-clause-requires : tie.Need-add-formula-clause-requires
@@ -93,11 +93,11 @@ add-formula-clause-requires c κs =
 
 -- src/clause.rt:70:1
 same-length : tie.Need-same-length
-same-length c = search needs
+same-length c = c .before .before .before .add-formula-clause .kept .1 .1 .1 .0
 
 -- src/clause.rt:70:1
 same-length-2 : tie.Need-same-length-2
-same-length-2 c = search needs
+same-length-2 c = c .before .before .before .add-formula-clause .kept .1 .1 .1 .1 .0
 
 -- src/clause.rt:70:1
 returns-7 : tie.Need-returns-7

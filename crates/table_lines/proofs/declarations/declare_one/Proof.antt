@@ -1,5 +1,5 @@
 use borrow.Author.Needs.{needs}
-use mathlib.Core.Path.{_≡_, refl, ap, sym, _∙_}
+use mathlib.Core.Path.{_≡_, ap, sym, _∙_}
 use native.Mathlib.Omega.{arith}
 use Rattle.tables.proofs.Laws.Turns.{one-shifted}
 use Rattle.table_lines.proofs.Laws.Declaring.{one-refused, one-universal, one-existential, one-same, one-added}
@@ -28,11 +28,11 @@ declare-requires c κs = search needs
 
 -- src/declarations.rt:61:13
 same-length : tie.Need-same-length
-same-length c = search needs
+same-length c = c .before .before .before .before .before .declare .kept .1 .1 .1 .1 .0
 
 -- src/declarations.rt:61:13
 same-length-2 : tie.Need-same-length-2
-same-length-2 c = search needs
+same-length-2 c = c .before .before .before .before .before .declare .kept .1 .1 .1 .1 .1 .0
 
 -- src/declarations.rt:61:13
 returns : tie.Need-returns
@@ -44,11 +44,11 @@ add-universal-requires c κs = c .before .before .before .before .before .before
 
 -- src/declarations.rt:64:9
 same-length-3 : tie.Need-same-length-3
-same-length-3 c = search needs
+same-length-3 c = c .before .before .before .before .before .before .declare .kept .1 .1 .1 .1 .0
 
 -- src/declarations.rt:64:9
 same-length-4 : tie.Need-same-length-4
-same-length-4 c = search needs
+same-length-4 c = c .before .before .before .before .before .before .declare .kept .1 .1 .1 .1 .1 .0
 
 -- src/declarations.rt:64:9
 returns-2 : tie.Need-returns-2
@@ -63,11 +63,11 @@ declare-requires-2 c κs = search needs
 
 -- src/declarations.rt:67:9
 same-length-5 : tie.Need-same-length-5
-same-length-5 c = search needs
+same-length-5 c = c .before .before .before .before .before .declare2 .kept .1 .1 .1 .1 .0
 
 -- src/declarations.rt:67:9
 same-length-6 : tie.Need-same-length-6
-same-length-6 c = search needs
+same-length-6 c = c .before .before .before .before .before .declare2 .kept .1 .1 .1 .1 .1 .0
 
 -- src/declarations.rt:67:9
 returns-3 : tie.Need-returns-3
@@ -75,11 +75,11 @@ returns-3 c = (one-same (c .before .before .before .before .before .before .befo
 
 -- src/declarations.rt:43:1
 same-length-7 : tie.Need-same-length-7
-same-length-7 c = search needs
+same-length-7 c = c .before .before .before .before .before .declare2 .kept .1 .1 .1 .1 .0
 
 -- src/declarations.rt:43:1
 same-length-8 : tie.Need-same-length-8
-same-length-8 c = search needs
+same-length-8 c = c .before .before .before .before .before .declare2 .kept .1 .1 .1 .1 .1 .0
 
 -- src/declarations.rt:43:1
 returns-4 : tie.Need-returns-4

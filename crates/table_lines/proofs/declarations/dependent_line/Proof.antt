@@ -47,7 +47,7 @@ all-universal-requires c κs = search needs
 
 -- src/declarations.rt:184:9
 same-length : tie.Need-same-length
-same-length c = search needs
+same-length c = refl
 
 -- src/declarations.rt:184:9
 returns-2 : tie.Need-returns-2
@@ -89,11 +89,11 @@ declare-requires c κs = search needs
 
 -- src/declarations.rt:188:9
 same-length-2 : tie.Need-same-length-2
-same-length-2 c = search needs
+same-length-2 c = c .before .before .before .before .before .declare .kept .1 .1 .1 .1 .0
 
 -- src/declarations.rt:188:9
 same-length-3 : tie.Need-same-length-3
-same-length-3 c = search needs
+same-length-3 c = c .before .before .before .before .before .declare .kept .1 .1 .1 .1 .1 .0
 
 -- src/declarations.rt:188:9
 returns-3 : tie.Need-returns-3
@@ -103,11 +103,11 @@ returns-3 c =
 
 -- src/declarations.rt:165:1
 same-length-4 : tie.Need-same-length-4
-same-length-4 c = search needs
+same-length-4 c = c .before .before .before .before .before .declare .kept .1 .1 .1 .1 .0
 
 -- src/declarations.rt:165:1
 same-length-5 : tie.Need-same-length-5
-same-length-5 c = search needs
+same-length-5 c = c .before .before .before .before .before .declare .kept .1 .1 .1 .1 .1 .0
 
 -- src/declarations.rt:165:1
 returns-4 : tie.Need-returns-4

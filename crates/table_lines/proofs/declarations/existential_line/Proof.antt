@@ -17,11 +17,11 @@ declare-all-requires c κs = (c .before .before .before .before .before .before 
 
 -- src/declarations.rt:146:1
 same-length : tie.Need-same-length
-same-length c = search needs
+same-length c = c .before .before .before .before .declare-all .kept .1 .1 .1 .0
 
 -- src/declarations.rt:146:1
 same-length-2 : tie.Need-same-length-2
-same-length-2 c = search needs
+same-length-2 c = c .before .before .before .before .declare-all .kept .1 .1 .1 .1 .0
 
 -- src/declarations.rt:146:1
 returns-2 : tie.Need-returns-2

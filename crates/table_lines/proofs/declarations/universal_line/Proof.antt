@@ -1,5 +1,5 @@
 use borrow.Author.Needs.{needs}
-use mathlib.Core.Path.{_≡_, refl, ap, sym, _∙_}
+use mathlib.Core.Path.{_≡_, ap, sym, _∙_}
 use native.Mathlib.Omega.{arith}
 use Rattle.table_lines.proofs.Laws.PrefixLines.{a-late, a-over, a-repeated, a-read, a-known, count-grows}
 use Rattle.table_lines.proofs.declarations.universal_line.Statement.{statement}
@@ -23,7 +23,7 @@ insert-all-requires c κs = search needs
 
 -- src/declarations.rt:234:9
 same-length : tie.Need-same-length
-same-length c = search needs
+same-length c = c .before .before .before .insert-all .kept .1 .1 .0
 
 -- src/declarations.rt:234:9
 returns-2 : tie.Need-returns-2
@@ -35,7 +35,7 @@ sub-if3 c = count-grows (c .before .before .before .before .before .before .befo
 
 -- src/declarations.rt:237:9
 same-length-2 : tie.Need-same-length-2
-same-length-2 c = search needs
+same-length-2 c = c .before .before .before .before .insert-all .kept .1 .1 .0
 
 -- src/declarations.rt:237:9
 returns-3 : tie.Need-returns-3
@@ -47,15 +47,15 @@ declare-all-requires c κs = search needs
 
 -- src/declarations.rt:213:1
 same-length-3 : tie.Need-same-length-3
-same-length-3 c = search needs
+same-length-3 c = c .before .before .before .before .before .before .before .before .before .before .before .insert-all .kept .1 .1 .0
 
 -- src/declarations.rt:213:1
 same-length-4 : tie.Need-same-length-4
-same-length-4 c = search needs
+same-length-4 c = c .before .before .before .before .declare-all .kept .1 .1 .1 .0
 
 -- src/declarations.rt:213:1
 same-length-5 : tie.Need-same-length-5
-same-length-5 c = search needs
+same-length-5 c = c .before .before .before .before .declare-all .kept .1 .1 .1 .1 .0
 
 -- src/declarations.rt:213:1
 returns-4 : tie.Need-returns-4

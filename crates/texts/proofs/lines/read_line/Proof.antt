@@ -106,7 +106,7 @@ enum-told-2 c = search needs
 
 -- src/lines.rt:70:1
 same-length : tie.Need-same-length
-same-length c = search needs
+same-length c = c .before .before .before .before .before .form .kept .1 .0
 
 -- src/lines.rt:70:1
 returns : tie.Need-returns
@@ -114,7 +114,7 @@ returns c = λ t r h k. rw (form-comment (c .before .before .before .before .bef
 
 -- src/lines.rt:70:1
 same-length-2 : tie.Need-same-length-2
-same-length-2 c = search needs
+same-length-2 c = c .before .before .before .before .before .before .form .kept .1 .0
 
 -- src/lines.rt:70:1
 returns-2 : tie.Need-returns-2
@@ -122,19 +122,19 @@ returns-2 c = λ t r h k. rw (form-header (c .before .before .before .before .be
 
 -- src/lines.rt:70:1
 same-length-3 : tie.Need-same-length-3
-same-length-3 c = search needs
+same-length-3 c = c .before .before .before .before .before .before .before .before .before .before .before .before .before .before .before .before .form .kept .1 .0
 
 -- src/lines.rt:70:1
 same-length-4 : tie.Need-same-length-4
-same-length-4 c = search needs
+same-length-4 c = c .before .before .before .before .before .before .universal-line .kept .1 .0
 
 -- src/lines.rt:70:1
 same-length-5 : tie.Need-same-length-5
-same-length-5 c = search needs
+same-length-5 c = c .before .before .before .before .before .before .universal-line .kept .1 .1 .1 .0
 
 -- src/lines.rt:70:1
 same-length-6 : tie.Need-same-length-6
-same-length-6 c = search needs
+same-length-6 c = c .before .before .before .before .before .before .universal-line .kept .1 .1 .1 .1 .0
 
 -- src/lines.rt:70:1
 returns-3 : tie.Need-returns-3
@@ -142,15 +142,15 @@ returns-3 c = λ t r h k. rw (form-universals (c .before .before .before .before
 
 -- src/lines.rt:70:1
 same-length-7 : tie.Need-same-length-7
-same-length-7 c = search needs
+same-length-7 c = c .before .before .before .before .before .before .before .before .before .before .before .before .before .form .kept .1 .0
 
 -- src/lines.rt:70:1
 same-length-8 : tie.Need-same-length-8
-same-length-8 c = search needs
+same-length-8 c = c .before .before .before .before .existential-line .kept .1 .1 .0
 
 -- src/lines.rt:70:1
 same-length-9 : tie.Need-same-length-9
-same-length-9 c = search needs
+same-length-9 c = c .before .before .before .before .existential-line .kept .1 .1 .1 .0
 
 -- src/lines.rt:70:1
 returns-4 : tie.Need-returns-4
@@ -158,15 +158,15 @@ returns-4 c = λ t r h k. rw (form-existentials (c .before .before .before .befo
 
 -- src/lines.rt:70:1
 same-length-10 : tie.Need-same-length-10
-same-length-10 c = search needs
+same-length-10 c = c .before .before .before .before .before .before .before .before .before .before .before .before .before .form .kept .1 .0
 
 -- src/lines.rt:70:1
 same-length-11 : tie.Need-same-length-11
-same-length-11 c = search needs
+same-length-11 c = c .before .before .before .before .dependent-line .kept .1 .1 .0
 
 -- src/lines.rt:70:1
 same-length-12 : tie.Need-same-length-12
-same-length-12 c = search needs
+same-length-12 c = c .before .before .before .before .dependent-line .kept .1 .1 .1 .0
 
 -- src/lines.rt:70:1
 returns-5 : tie.Need-returns-5
@@ -174,19 +174,19 @@ returns-5 c = λ t r h k. rw (form-dependent (c .before .before .before .before 
 
 -- src/lines.rt:70:1
 same-length-13 : tie.Need-same-length-13
-same-length-13 c = search needs
+same-length-13 c = c .before .before .before .before .before .before .before .before .before .before .before .before .before .form .kept .1 .0
 
 -- src/lines.rt:70:1
 same-length-14 : tie.Need-same-length-14
-same-length-14 c = search needs
+same-length-14 c = c .before .before .before .clause-line .kept .1 .1 .0
 
 -- src/lines.rt:70:1
 same-length-15 : tie.Need-same-length-15
-same-length-15 c = search needs
+same-length-15 c = c .before .before .before .clause-line .kept .1 .1 .1 .0
 
 -- src/lines.rt:70:1
 same-length-16 : tie.Need-same-length-16
-same-length-16 c = search needs
+same-length-16 c = refl
 
 -- src/lines.rt:70:1
 returns-6 : tie.Need-returns-6
@@ -196,7 +196,7 @@ returns-6 c =
 
 -- src/lines.rt:70:1
 same-length-17 : tie.Need-same-length-17
-same-length-17 c = search needs
+same-length-17 c = c .before .before .before .before .form .kept .1 .0
 
 -- src/lines.rt:70:1
 returns-7 : tie.Need-returns-7

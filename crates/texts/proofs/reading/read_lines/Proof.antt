@@ -91,11 +91,11 @@ part-read-line-end c = omega (arith, line-at-inside (c .before .before .before .
 
 -- src/reading.rt:68:13
 slice-aggregate-read-line : tie.Need-slice-aggregate-read-line Inv-loop μ-loop
-slice-aggregate-read-line c = search needs
+slice-aggregate-read-line c = sym (c .before .before .before .before .before .before .loop .inv .6)
 
 -- src/reading.rt:69:13
 slice-aggregate-read-line-2 : tie.Need-slice-aggregate-read-line-2 Inv-loop μ-loop
-slice-aggregate-read-line-2 c = search needs
+slice-aggregate-read-line-2 c = sym (c .before .before .before .before .before .before .before .loop .inv .7)
 
 -- src/reading.rt:66:13
 read-line-requires : tie.Need-read-line-requires Inv-loop μ-loop
