@@ -48,8 +48,10 @@ flipped z f t = go z f (rw (toZ-ofZ f) at t) (toZ-ofZ f)
   where
     below : (n : ℕ) → n < 0 → ⊥
     below n h = omega arith
+
     one-off : (n : ℕ) → negsuc 0 -ℤ negsuc n ≡ pos n
     one-off n = let h : 1 ≤ suc n = omega arith in let e : suc n - 1 ≡ n = omega arith in rw (le-ltb (suc n) 1 h, e)
+
     go : (z : ℤ) → SFits w16 z → ltZ z (pos 0) ≡ true → toZ w16 (ofZ w16 z) ≡ z → Flipped z
     go (pos n) f t e = absurd (below n (ltb-true n 0 t))
     go (negsuc n) f t e = record { n = n; is = refl; less = rw e (one-off n); small = f .sfits }

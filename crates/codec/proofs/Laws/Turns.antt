@@ -95,6 +95,7 @@ front-part out out₀ X ys i j e h k l f =
   where
     more : length X + (j - length X) ≡ j
     more = omega arith
+
     rest-stays : drop j out ≡ drop j out₀
     rest-stays =
         ap (λ n. drop n out) (sym more) ∙ ap (drop (length X + (j - length X))) f ∙ drop-append-add X (drop (length X) out₀) (j - length X)
@@ -113,7 +114,7 @@ table-more w out out₀ xs i x {ys} h room same q e f =
     let long : length ys ≡ w * i + w - w * i = ap length written ∙ digits-length w (getD xs i 0) ∙ sym (lent-part w i) in
     let front : w * i ≡ length (bytesOf w (take i xs)) = sym (bytes-length w (take i xs) ∙ ap (λ n. w * n) (length-take-le i xs (le-of-lt h))) in
     let more : bytesOf w (take i xs) ++ ys ≡ bytesOf w (take (i + 1) xs) =
-        rw (written, add-one i, take-suc xs i 0 h) (sym (bytes-behind w (take i xs) (getD xs i 0))) in
+    rw (written, add-one i, take-suc xs i 0 h) (sym (bytes-behind w (take i xs) (getD xs i 0))) in
     front-part out out₀ (bytesOf w (take i xs)) ys (w * i) (w * i + w) front (le-add-right (w * i) w) end long e ∙ ap (λ front. over front out₀) more
 
 pub table-end : (w : ℕ) (out out₀ xs : List ℕ) (i : ℕ) → i ≤ length xs → length xs ≤ i → out ≡ over (bytesOf w (take i xs)) out₀ → out ≡ over (bytesOf w xs) out₀

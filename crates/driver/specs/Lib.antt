@@ -1,0 +1,3 @@
+pub mod Buffers
+pub mod Results
+pub mod Calls
