@@ -1,9 +1,12 @@
 // Buffers: their sizes, and the tables in them.
 ghost use mathlib.Core.Path.{_≡_};
-ghost use Prim.Native.Nat.{_*_, _≤_};
-ghost use lib.ListN.{length};
+ghost use mathlib.Core.Bool.{cond};
+ghost use Prim.Native.Nat.{_*_, _-_, _≤_};
+ghost use lib.Dec.{leb};
+ghost use lib.ListN.{length, replicate};
 ghost use Rattle.codec.specs.Bytes.{entries, bytesOf, literalsIn, literalBytes, over};
-ghost use Rattle.driver.specs.Buffers.{buffersOf, whole};
+ghost use Rattle.driver.specs.Buffers.{buffersOf, stateSize, whole};
+ghost use Rattle.tables.specs.Tables.{entry};
 use codec::table;
 
 const LITERAL_BYTES: usize = 16384;
@@ -73,4 +76,26 @@ pub fn write_tables(
     table::write_literals(literal_bytes, literals);
     table::write_ends(end_bytes, ends);
     table::write_sets(set_bytes, sets);
+}
+
+// Zeros over a state that is lent whole; a shorter one stays.
+pub fn zero_state(state: &mut [u8])
+    ensures { λ _. ⌜ now (state .exit) ≡ cond (leb stateSize (length (now (state .entry)))) (over (replicate stateSize 0) (now (state .entry))) (now (state .entry)) ⌝ }
+{
+    if state.len() < STATE_BYTES {
+        return;
+    }
+    let zeros = [0u16; 8];
+    table::write_ends(state, &zeros);
+}
+
+// Where a clause starts: the end of the one before it; 0 for the first, and where there is no such end.
+pub fn clause_start(ends: &[u16], clause: u32) -> u16
+    ensures { λ r. ⌜ r ≡ entry (now (ends .entry)) (clause - 1) ⌝ }
+{
+    if clause < 2 {
+        return 0;
+    }
+    let place = (clause - 2) as usize;
+    if place < ends.len() { ends[place] } else { 0 }
 }
