@@ -131,3 +131,9 @@ bytes-back w (suc n) b h k =
       bytes-back w n (drop w b) rest (rest-bytes w b k),
     )
     (take-append-drop w b)
+
+-- ---- over
+
+pub over-length : (front buffer : List ℕ) → length front ≤ length buffer → length (over front buffer) ≡ length buffer
+unfolding over
+over-length front buffer h = omega (arith, length-append front (drop (length front) buffer), length-drop (length front) buffer)

@@ -67,6 +67,9 @@ whole-sizes b e =
       state = leb-true 16 (length (b .state)) (at 4);
     }
 
+pub sizes-whole : (b : Buffers) → Sizes b → whole b ≡ true
+sizes-whole b z = sym (whole-last b (z .literals) (z .ends) (z .sets) (z .kinds)) ∙ le-leb 16 (length (b .state)) (z .state)
+
 -- ---- a run
 
 module _ (b : Buffers) (records : List ℕ) {a : Bool} (told : a ≡ whole b) where

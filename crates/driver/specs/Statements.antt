@@ -1,0 +1,3 @@
+-- What is claimed of the driver's calls
+pub mod Refutation
+pub mod RoundTrip
