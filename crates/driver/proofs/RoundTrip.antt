@@ -72,11 +72,11 @@ module _ (b : Buffers) (m : Model) (w : whole b ≡ true) (v : Valid tables m) w
   unfolding tablesIn written spread
   tables-back = λ i. record {
     literals = literals-back literalLimit (Spread.over literalLimit (pos 0) (flat (clauses m)) (literalsIn literalLimit (b .literals))) (b .literals) literals-long
-      (literals-small m v (literalsIn literalLimit (b .literals)) (omega (arith, literals-length literalLimit (b .literals)))) i;
+        (literals-small m v (literalsIn literalLimit (b .literals)) (omega (arith, literals-length literalLimit (b .literals)))) i;
     ends = table-back 2 clauseLimit (Spread.over clauseLimit 0 (endsFrom 0 (clauses m)) (entries 2 clauseLimit (b .ends))) (b .ends) ends-long
-      (ends-small m v (entries 2 clauseLimit (b .ends)) (omega (arith, entries-length 2 clauseLimit (b .ends)))) i;
+        (ends-small m v (entries 2 clauseLimit (b .ends)) (omega (arith, entries-length 2 clauseLimit (b .ends)))) i;
     sets = table-back 8 variableLimit (Spread.over variableLimit 0 (setRow m) (entries 8 variableLimit (b .sets))) (b .sets) sets-long
-      (sets-small m v (entries 8 variableLimit (b .sets)) (omega (arith, entries-length 8 variableLimit (b .sets)))) i;
+        (sets-small m v (entries 8 variableLimit (b .sets)) (omega (arith, entries-length 8 variableLimit (b .sets)))) i;
     kinds = Spread.over variableLimit 0 (kindRow m) (b .kinds);
   }
 
