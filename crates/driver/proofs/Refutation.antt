@@ -1,12 +1,11 @@
 -- THE REFUTATION THEOREM for the driver's buffers: specs/Statements/Refutation.antt.
 -- The tables and the state in the buffers go through the same calls as lent tables do (crate `steps`), since what is written is read back.
 use mathlib.Core.Path.{_≡_, refl, sym, _∙_, ap}
-use mathlib.Core.Bool.{Bool, true, false, cond, not}
+use mathlib.Core.Bool.{Bool, true, false}
 use mathlib.Core.List.{List, [], _∷_, map, List·Memᴰ·head, List·Memᴰ·tail, List·Memᴰ·not-nil}
-use Prim.Native.Nat.{ℕ, _+_, _*_, _%_, _<_}
+use Prim.Native.Nat.{ℕ}
 use native.Mathlib.Omega.{arith}
-use lib.ListN.{length}
-use Rattle.dqbf.specs.Limits.{tables, clauseLimit, literalLimit, variableLimit}
+use Rattle.dqbf.specs.Limits.{tables}
 use Rattle.dqbf.specs.Literal.{_∈_}
 use Rattle.dqbf.specs.Formula.{Formula}
 use Rattle.dqbf.specs.Meaning.{Refuted}
@@ -18,35 +17,28 @@ use Rattle.dqbf.specs.Run as Run
 use Rattle.dqbf.specs.Valid.{Valid}
 use Rattle.dqbf.proofs.LoadValid.{load-valid}
 use Rattle.dqbf.proofs.StepsKeepValid.{call-keeps}
-use Rattle.tables.specs.Tables.{Tables, modelIn}
+use Rattle.tables.specs.Tables.{modelIn}
 use Rattle.tables.specs.Spread.{spread, stateOf}
 use Rattle.tables.specs.WellFormed.{long, wellFormed}
-use Rattle.tables.specs.declared.State.{State}
 use Rattle.tables.specs.declared.StepNumber.{StepNumber}
 use Rattle.tables.specs.declared.ClauseNumber.{ClauseNumber}
-use Rattle.tables.proofs.Laws.Formed.{long-to}
 use Rattle.tables.proofs.Laws.Spread.{valid-held, formed-spread}
-use Rattle.dqdimacs.specs.Loading.{AfterLoad, loadAnswer, loadedModel, loadedOn, loadOf}
+use Rattle.dqdimacs.specs.Loading.{loadAnswer, loadedModel, loadedOn, loadOf}
 use Rattle.steps.specs.Steps.{ranOn, runOf}
 use Rattle.steps.specs.declared.RunAnswer.{RunAnswer}
 use Rattle.steps.specs.declared.RunAnswer.the-variants as RunAnswer
 use Rattle.steps.specs.Statements.Refutation.{Lent, answers}
 use Rattle.steps.specs.Statements.Refutation as Lending
 use Rattle.steps.proofs.Refutation as Lent-tables
-use Rattle.codec.proofs.Laws.Bytes.{entries-length}
-use Rattle.codec.proofs.Laws.Turns.{literals-length}
 use Rattle.driver.specs.Buffers.{Buffers, whole, tablesIn, stateIn, written}
-use Rattle.driver.specs.Results.{packed, field, loadResult, runResult}
+use Rattle.driver.specs.Results.{field, loadResult, runResult}
 use Rattle.driver.specs.Calls.{After, loaded, loadShort, loadBytes, ran, runBytes}
 use Rattle.driver.specs.Statements.Refutation.{Call, runCall, otherCall, next, runResults, Refutation}
-use Rattle.driver.proofs.Laws.Outcomes.{whole-sizes}
+use Rattle.driver.proofs.Laws.Outcomes.{lent-long}
+use Rattle.driver.proofs.Laws.Results.{case-is}
 use Rattle.driver.proofs.RoundTrip.{read-back}
 
 -- ---- results
-
-case-is : (case a b : ℕ) → case < 65536 → field 0 (packed case a b) ≡ case
-unfolding field packed
-case-is case a b h = omega arith
 
 refuted-is : (x : RunAnswer) → field 0 (runResult x) ≡ 0 → (s : StepNumber) × (k : ClauseNumber) × (x ≡ RunAnswer.Refuted s k)
 unfolding runResult
@@ -58,17 +50,6 @@ refuted-is (RunAnswer.Bad s n) h = absurd (omega (arith, case-is 2 (s .0) n (ome
 
 lentIn : Buffers → Lent
 lentIn b = record { tables = tablesIn b; state = stateIn b }
-
-lent-long : (b : Buffers) → whole b ≡ true → long (tablesIn b) ≡ true
-unfolding tablesIn
-lent-long b w =
-    let z = whole-sizes b w in
-    long-to (tablesIn b) (record {
-      literals = omega (arith, literals-length literalLimit (b .literals));
-      ends = omega (arith, entries-length 2 clauseLimit (b .ends));
-      sets = omega (arith, entries-length 8 variableLimit (b .sets));
-      kinds = z .kinds;
-    })
 
 -- long enough, and the tables are well formed
 record Good (b : Buffers) : Type 0 where

@@ -1,17 +1,13 @@
 -- The claims of specs/Statements/RoundTrip.antt.
-use mathlib.Core.Path.{_≡_, refl, ap, sym, _∙_}
+use mathlib.Core.Path.{_≡_, ap, _∙_}
 use mathlib.Core.Bool.{true}
-use mathlib.Core.List.{List}
-use Prim.Native.Nat.{ℕ, _*_, _≤_}
+use Prim.Native.Nat.{_*_}
 use native.Mathlib.Omega.{arith}
-use borrow.Author.Tests.{le-leb}
 use lib.IntN.{pos}
 use lib.ListN.{length}
 use Rattle.dqbf.specs.Limits.{tables, clauseLimit, literalLimit, variableLimit}
 use Rattle.dqbf.specs.Model.{Model, clauses}
 use Rattle.dqbf.specs.Valid.{Valid}
-use Rattle.tables.specs.declared.State.{State}
-use Rattle.tables.specs.Tables.{Tables, tablesOf}
 use Rattle.tables.specs.Spread.{flat, endsFrom, setRow, kindRow, spread, stateOf}
 use Rattle.tables.specs.Spread as Spread
 use Rattle.tables.specs.WellFormed.{long}
@@ -19,14 +15,13 @@ use Rattle.tables.proofs.Laws.Cuts.{flat-length, ends-length}
 use Rattle.tables.proofs.Laws.Valid.{kinds-used, sets-used}
 use Rattle.tables.proofs.Laws.Rows as Rows
 use Rattle.codec.specs.Bytes.{entries, bytesOf, literalsIn, literalBytes, over}
-use Rattle.codec.specs.State.{stateBytes, counts}
-use Rattle.codec.specs.State as Codec
+use Rattle.codec.specs.State.{stateBytes}
 use Rattle.codec.proofs.Laws.Bytes.{entries-length, bytes-length, over-length}
 use Rattle.codec.proofs.Laws.State.{state-length, state-back}
 use Rattle.codec.proofs.Laws.Turns.{literals-length}
 use Rattle.codec.proofs.Laws.RoundTrip.{literal-bytes-length, table-back, table-same, literals-back, literals-same, state-same}
-use Rattle.driver.specs.Buffers.{Buffers, whole, stateWhole, tablesIn, stateIn, written}
-use Rattle.driver.specs.Statements.RoundTrip.{AllBytes, SameBytes, ReadBack}
+use Rattle.driver.specs.Buffers.{Buffers, whole, tablesIn, stateIn, written}
+use Rattle.driver.specs.Statements.RoundTrip.{SameBytes, ReadBack}
 use Rattle.driver.proofs.Laws.Fits.{literals-small, ends-small, sets-small, counts-small}
 use Rattle.driver.proofs.Laws.Outcomes.{Sizes, whole-sizes, sizes-whole}
 

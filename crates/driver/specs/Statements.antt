@@ -1,3 +1,4 @@
 -- What is claimed of the driver's calls
 pub mod Refutation
 pub mod RoundTrip
+pub mod Shown

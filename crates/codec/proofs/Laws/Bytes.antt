@@ -1,12 +1,12 @@
 -- Laws of specs/Bytes.antt, in its order, over the width of an entry: lengths, an entry by its place, and both round trips.
 -- `Bytes b` says that a list is one of bytes, `Fits w xs` that w bytes hold each entry.
 use mathlib.Core.Path.{_≡_, refl, ap, sym, _∙_}
-use mathlib.Core.List.{List, [], _∷_, _++_, append-assoc, append-nil, map}
+use mathlib.Core.List.{List, [], _∷_, _++_, append-assoc, append-nil}
 use Prim.Native.Nat.{ℕ, zero, suc, _+_, _-_, _*_, _/_, _%_, _<_, _≤_, _^_}
 use native.Mathlib.Nat.{pow-suc, mul-zero, mul-suc, add-comm, one-le-pow, div-lt-iff-lt-mul}
 use native.Mathlib.Omega.{arith}
-use lib.ListN.{length, getD, take, drop, length-append, length-drop, length-take, length-map, take-append-drop}
-use lib.Seq.{take-at, drop-at, drop-drop, take-all, length-take-le, getD-take, getD-drop}
+use lib.ListN.{length, getD, take, drop, length-append, length-drop, length-take, take-append-drop}
+use lib.Seq.{take-at, drop-at, drop-drop, length-take-le, getD-drop}
 use Rattle.dqbf.specs.Bytes.{number}
 use Rattle.codec.specs.Bytes.{digits, entries, bytesOf, over}
 

@@ -1,10 +1,10 @@
 -- Tables of literals and the state, there and back: what is written and read again is the same, and so are bytes that are read and written again.
-use mathlib.Core.Path.{_≡_, refl, ap, sym, _∙_}
-use mathlib.Core.List.{List, [], _∷_, _++_, map}
-use Prim.Native.Nat.{ℕ, zero, suc, _+_, _*_, _<_, _≤_, _^_}
+use mathlib.Core.Path.{_≡_, refl, ap, _∙_}
+use mathlib.Core.List.{List, [], _∷_, map}
+use Prim.Native.Nat.{ℕ, zero, suc, _*_, _<_, _≤_, _^_}
 use lib.IntN.{ℤ, pos}
 use lib.Signed.{mag}
-use lib.ListN.{length, getD, drop, length-map, List·getD-map}
+use lib.ListN.{length, getD, drop, length-map}
 use Rattle.codec.specs.Bytes.{entries, bytesOf, signed, bits, literalsIn, literalBytes, over}
 use Rattle.codec.specs.State.{counts, stateWith, stateIn, stateBytes}
 use Rattle.codec.proofs.Laws.Bytes.{Bytes, Fits, bytes-length, entries-length, entries-fit, entries-back, bytes-back}

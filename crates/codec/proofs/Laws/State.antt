@@ -1,10 +1,9 @@
 -- The state in bytes (specs/State.antt): what is written of each count, and both round trips.
-use mathlib.Core.Path.{_≡_, refl, ap, sym, _∙_}
+use mathlib.Core.Path.{_≡_, ap, _∙_}
 use mathlib.Core.List.{List, [], _∷_, _++_}
-use Prim.Native.Nat.{ℕ, zero, suc, _+_, _*_, _/_, _%_, _<_, _≤_, _^_}
+use Prim.Native.Nat.{ℕ, _/_, _%_, _<_}
 use native.Mathlib.Nat.{mod-mod}
-use native.Mathlib.Omega.{arith}
-use lib.ListN.{length, getD, drop}
+use lib.ListN.{length, getD}
 use lib.Pow.{field, mod-mod-pow}
 use Rattle.tables.specs.declared.State.{State}
 use Rattle.codec.specs.Bytes.{digits, entries, bytesOf, over}

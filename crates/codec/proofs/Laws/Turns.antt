@@ -1,14 +1,14 @@
 -- One turn of each loop over bytes and tables, and its end.
 use mathlib.Core.Path.{_≡_, refl, ap, sym, _∙_}
 use mathlib.Core.List.{List, [], _∷_, _++_, append-assoc, append-nil, map}
-use Prim.Native.Nat.{ℕ, zero, suc, _+_, _-_, _*_, _/_, _%_, _<_, _≤_, _^_}
+use Prim.Native.Nat.{ℕ, suc, _+_, _-_, _*_, _/_, _%_, _<_, _≤_}
 use native.Mathlib.Nat.{mul-suc, sub-zero, mul-le-mul-left, add-comm, add-sub-cancel-left, le-add-right, le-of-lt, le-trans}
 use native.Mathlib.Numerals.{add-one}
 use native.Mathlib.Omega.{arith}
 use borrow.Rule.Slice.PartMut.{putMid, post-is}
 use lib.IntN.{ℤ, pos}
 use lib.ListN.{length, getD, set, take, drop, length-append, length-drop, length-take, length-map, List·getD-map}
-use lib.Seq.{take-at, drop-at, drop-append-add, drop-drop, drop-cons, take-suc, take-suc-set, take-length, drop-length, append-snoc, length-take-le, take-all}
+use lib.Seq.{take-at, drop-append-add, drop-drop, drop-cons, take-suc, take-suc-set, drop-length, append-snoc, length-take-le, take-all}
 use Rattle.dqbf.specs.Bytes.{number}
 use Rattle.dqbf.proofs.Laws.Parts.{copy-step, copy-done, part-length}
 use Rattle.codec.specs.Bytes.{digits, entries, bytesOf, signed, bits, literalsIn, literalBytes, over}

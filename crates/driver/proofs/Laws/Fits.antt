@@ -1,17 +1,17 @@
 -- What a valid model's tables and state hold fits the bytes of its entry.
-use mathlib.Core.Path.{_≡_, refl, ap, sym, _∙_}
+use mathlib.Core.Path.{_≡_, refl, sym, _∙_}
 use mathlib.Core.Bool.{Bool, true, false}
 use mathlib.Core.List.{List, [], _∷_, _++_, List·Memᴰ·head, List·Memᴰ·tail, append-nil}
-use Prim.Native.Nat.{ℕ, zero, suc, _+_, _-_, _*_, _/_, _%_, _<_, _≤_, _^_}
+use Prim.Native.Nat.{ℕ, zero, suc, _+_, _-_, _/_, _<_, _≤_, _^_}
 use native.Mathlib.Nat.{pow-suc, le-trans}
 use native.Mathlib.Omega.{arith}
 use lib.IntN.{ℤ, pos, negsuc, natAbs}
 use lib.Signed.{mag}
-use lib.ListN.{length, getD, replicate, drop, drop-of-length-le, length-append}
+use lib.ListN.{length, getD, replicate, drop-of-length-le, length-append}
 use Rattle.dqbf.specs.Limits.{tables, clauseLimit, literalLimit, variableLimit}
 use Rattle.dqbf.specs.Literal.{Clause, _∈_, total}
 use Rattle.dqbf.specs.Set.{bit}
-use Rattle.dqbf.specs.Model.{Model, clauses, used, steps, universalCount, emptyFrom, lowestEmpty, setOf}
+use Rattle.dqbf.specs.Model.{Model, clauses, used, steps, emptyFrom, lowestEmpty, setOf}
 use Rattle.dqbf.specs.Valid.{Valid}
 use Rattle.dqbf.proofs.Laws.Models.{in-use}
 use Rattle.dqbf.proofs.Laws.Words.{bit-zero, bit-ext}

@@ -3,7 +3,7 @@ use mathlib.Core.Path.{_≡_, refl, sym, _∙_, ap}
 use mathlib.Core.Bool.{Bool, true, false, not, cond, and-true}
 use mathlib.Core.List.{List, [], _∷_}
 use mathlib.Core.Option.{Option, none, some}
-use Prim.Native.Nat.{ℕ, suc, _+_, _-_, _*_, _%_, _<_, _≤_}
+use Prim.Native.Nat.{ℕ, suc, _-_, _<_, _≤_}
 use native.Mathlib.Omega.{arith}
 use borrow.Author.Tests.{lt-leb, le-leb, leb-true}
 use lib.Dec.{leb}
@@ -19,7 +19,8 @@ use Rattle.tables.specs.Spread as Spread
 use Rattle.tables.specs.Unusable.{unusable, unlessRefused}
 use Rattle.tables.specs.WellFormed.{every, long}
 use Rattle.tables.specs.declared.State.{State}
-use Rattle.tables.proofs.Laws.Tests.{every-fails, every-at}
+use Rattle.tables.proofs.Laws.Formed.{long-to}
+use Rattle.tables.proofs.Laws.Tests.{every-at}
 use Rattle.questions.specs.Answers.{lengthAnswer, variableAnswer, shownStart}
 use Rattle.dqdimacs.specs.Loading.{AfterLoad, loadedOn, loadOf}
 use Rattle.dqdimacs.specs.declared.Loaded.{Loaded}
@@ -69,6 +70,18 @@ whole-sizes b e =
 
 pub sizes-whole : (b : Buffers) → Sizes b → whole b ≡ true
 sizes-whole b z = sym (whole-last b (z .literals) (z .ends) (z .sets) (z .kinds)) ∙ le-leb 16 (length (b .state)) (z .state)
+
+-- the tables in them are long enough then
+pub lent-long : (b : Buffers) → whole b ≡ true → long (tablesIn b) ≡ true
+unfolding tablesIn
+lent-long b w =
+    let z = whole-sizes b w in
+    long-to (tablesIn b) (record {
+      literals = omega (arith, literals-length literalLimit (b .literals));
+      ends = omega (arith, entries-length 2 clauseLimit (b .ends));
+      sets = omega (arith, entries-length 8 variableLimit (b .sets));
+      kinds = z .kinds;
+    })
 
 -- ---- a run
 

@@ -1,4 +1,4 @@
-use borrow.Author.Needs.{needs}
+-- `codec::number::bits_of` meets its contract.
 use mathlib.Core.Path.{sym, ap}
 use native.Mathlib.Omega.{arith}
 use mir.Syntax.{w16}
@@ -7,31 +7,23 @@ use Rattle.codec.specs.Bytes.{bits}
 use Rattle.codec.proofs.Laws.Signed.{flipped, pos-casts, bits-pos}
 use Rattle.codec.proofs.number.bits_of.Statement.{statement}
 use Rattle.codec.proofs.number.bits_of.Tie as tie
-use Rattle.codec.proofs.number.bits_of.Reads as reads
-use Rattle.codec.proofs.number.bits_of.Lts as lts
 
--- src/number.rt:56:26
 sub-result : tie.Need-sub-result
 sub-result c = let p = flipped (c .before .args .number) (c .before .fits .number) (c .if1 .taken) in rw (p .less) (record { sfits = p .small })
 
--- src/number.rt:56:25
 cast-result : tie.Need-cast-result
 cast-result c = let p = flipped (c .before .args .number) (c .before .fits .number) (c .if1 .taken) in rw (p .less, toZ-pos w16 (p .small)) (tt, record { fits = omega arith })
 
--- src/number.rt:56:16
 sub-result-2 : tie.Need-sub-result-2
 sub-result-2 c = let p = flipped (c .before .args .number) (c .before .fits .number) (c .if1 .taken) in rw (p .less, toZ-pos w16 (p .small)) (omega arith)
 
--- src/number.rt:56:9
 returns : tie.Need-returns
 unfolding bits
 returns c = let p = flipped (c .before .args .number) (c .before .fits .number) (c .if1 .taken) in rw (p .less, toZ-pos w16 (p .small)) (sym (ap bits (p .is)))
 
--- src/number.rt:58:5
 cast-result-2 : tie.Need-cast-result-2
 cast-result-2 c = let f = c .before .fits .number in rw (toZ-ofZ f) (pos-casts (c .before .args .number) f (rw (toZ-ofZ f) at (c .if1 .left)))
 
--- src/number.rt:52:1
 returns-2 : tie.Need-returns-2
 returns-2 c = let f = c .before .fits .number in rw (toZ-ofZ f) (bits-pos (c .before .args .number) (rw (toZ-ofZ f) at (c .if1 .left)))
 

@@ -1,33 +1,26 @@
+-- `codec::number::signed_of` meets its contract.
 use borrow.Author.Needs.{needs}
 use Prim.Native.Nat.{_-_}
 use native.Mathlib.Omega.{arith}
 use Rattle.codec.proofs.Laws.Signed.{low-half, high-fits, high-half}
 use Rattle.codec.proofs.number.signed_of.Statement.{statement}
 use Rattle.codec.proofs.number.signed_of.Tie as tie
-use Rattle.codec.proofs.number.signed_of.Reads as reads
-use Rattle.codec.proofs.number.signed_of.Lts as lts
 
--- src/number.rt:46:16
 cast-result : tie.Need-cast-result
 cast-result c = search needs
 
--- src/number.rt:46:9
 returns : tie.Need-returns
 returns c = low-half (c .before .args .number) (c .if1 .taken)
 
--- src/number.rt:48:12
 sub-result : tie.Need-sub-result
 sub-result c = search needs
 
--- src/number.rt:48:11
 cast-result-2 : tie.Need-cast-result-2
 cast-result-2 c = search needs
 
--- src/number.rt:48:5
 sub-result-2 : tie.Need-sub-result-2
 sub-result-2 c = high-fits (65535 - c .before .args .number) (omega arith)
 
--- src/number.rt:42:1
 returns-2 : tie.Need-returns-2
 returns-2 c = high-half (c .before .args .number) (c .if1 .left) (c .before .fits .number .fits)
 

@@ -1,49 +1,36 @@
+-- `codec::state::write_state` meets its contract.
 use borrow.Author.Needs.{needs}
 use Rattle.codec.proofs.Laws.State.{state-written}
 use Rattle.codec.proofs.state.write_state.Statement.{statement}
 use Rattle.codec.proofs.state.write_state.Tie as tie
-use Rattle.codec.proofs.state.write_state.Reads as reads
-use Rattle.codec.proofs.state.write_state.Lts as lts
-use Rattle.codec.proofs.state.low.Reads as low-reads
-use Rattle.codec.proofs.table.write_ends.Reads as write-ends-reads
 
--- src/state.rt:59:9
 low-requires : tie.Need-low-requires
 low-requires c κs = search needs
 
--- src/state.rt:60:9
 low-requires-2 : tie.Need-low-requires-2
 low-requires-2 c κs = search needs
 
--- src/state.rt:62:9
 low-requires-3 : tie.Need-low-requires-3
 low-requires-3 c κs = search needs
 
--- src/state.rt:63:9
 low-requires-4 : tie.Need-low-requires-4
 low-requires-4 c κs = search needs
 
--- src/state.rt:65:9
 low-requires-5 : tie.Need-low-requires-5
 low-requires-5 c κs = search needs
 
--- src/state.rt:66:9
 low-requires-6 : tie.Need-low-requires-6
 low-requires-6 c κs = search needs
 
--- src/state.rt:68:30
 slice-aggregate-write-ends : tie.Need-slice-aggregate-write-ends
 slice-aggregate-write-ends c = search needs
 
--- src/state.rt:68:5
 write-ends-requires : tie.Need-write-ends-requires
 write-ends-requires c κs = search needs
 
--- src/state.rt:48:1
 same-length : tie.Need-same-length
 same-length c = search needs
 
--- src/state.rt:48:1
 returns : tie.Need-returns
 returns c = state-written (c .before .before .before .before .before .before .before .before .before .before .before .before .before .before .before .before .before .before .args .state) _ _ (c .before .before .before .before .before .before .before .before .before .before .low .ensures) (c .before .before .before .before .before .before .before .before .before .low2 .ensures) (c .before .before .before .before .before .before .before .before .low3 .ensures) (c .before .before .before .before .before .before .before .low4 .ensures) (c .before .before .before .before .before .before .low5 .ensures) (c .before .before .before .before .before .low6 .ensures) (c .before .before .write-ends .ensures)
 

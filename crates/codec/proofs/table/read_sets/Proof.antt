@@ -1,18 +1,15 @@
+-- `codec::table::read_sets` meets its contract.
 use borrow.Author.Needs.{needs}
-use mathlib.Core.Path.{_≡_, refl, sym, _∙_, ap}
-use mathlib.Core.List.{_++_, map}
-use Prim.Native.Nat.{_+_, _-_, _*_, _<_, _≤_}
+use mathlib.Core.Path.{_≡_, refl}
+use mathlib.Core.List.{_++_}
+use Prim.Native.Nat.{_-_, _≤_}
 use native.Mathlib.Omega.{arith}
-use lib.IntN.{ℤ, pos}
-use lib.ListN.{length, take, drop, getD, length-set}
+use lib.ListN.{length, take, drop, length-set}
 use Rattle.codec.specs.Bytes.{entries}
 use Rattle.codec.proofs.Laws.Bytes.{entries-length}
-use Rattle.codec.proofs.Laws.Turns.{fill-more, fill-end, entry-read, entry-fits, literal-read, literals-length}
+use Rattle.codec.proofs.Laws.Turns.{fill-more, fill-end, entry-read}
 use Rattle.codec.proofs.table.read_sets.Statement.{statement}
 use Rattle.codec.proofs.table.read_sets.Tie as tie
-use Rattle.codec.proofs.table.read_sets.Reads as reads
-use Rattle.codec.proofs.table.read_sets.Lts as lts
-use Rattle.codec.proofs.number.read.Reads as read-reads
 
 abbrev Inv-loop : tie.InvT-loop
 Inv-loop sets₀ bytes i₀ sets i = (i ≤ length sets₀) × (length sets ≡ length sets₀) × (sets ≡ take i (entries 8 (length sets₀) bytes) ++ drop i sets₀)
@@ -20,59 +17,45 @@ Inv-loop sets₀ bytes i₀ sets i = (i ≤ length sets₀) × (length sets ≡ 
 abbrev μ-loop : tie.MeasureT-loop
 μ-loop sets₀ bytes i₀ sets i = length sets₀ - i
 
--- src/table.rt:41:5
 loop-holds : tie.Need-loop-holds Inv-loop μ-loop
 loop-holds c = (search needs, refl, refl)
 
--- src/table.rt:42:18
 mul-at : tie.Need-mul-at Inv-loop μ-loop
 mul-at c = search needs
 
--- src/table.rt:43:19
 add-end : tie.Need-add-end Inv-loop μ-loop
 add-end c = search needs
 
--- src/table.rt:44:32
 sub-read : tie.Need-sub-read Inv-loop μ-loop
 sub-read c = search needs
 
--- src/table.rt:44:32
 part-read-start : tie.Need-part-read-start Inv-loop μ-loop
 part-read-start c = search needs
 
--- src/table.rt:44:32
 part-read-end : tie.Need-part-read-end Inv-loop μ-loop
 part-read-end c = search needs
 
--- src/table.rt:44:19
 read-requires : tie.Need-read-requires Inv-loop μ-loop
 read-requires c κs = search needs
 
--- src/table.rt:44:9
 mul-sets : tie.Need-mul-sets Inv-loop μ-loop
 mul-sets c = search needs
 
--- src/table.rt:44:9
 slice-write-sets : tie.Need-slice-write-sets Inv-loop μ-loop
 slice-write-sets c = search needs
 
--- src/table.rt:45:9
 add-i : tie.Need-add-i Inv-loop μ-loop
 add-i c = search needs
 
--- src/table.rt:41:5
 loop-less : tie.Need-loop-less Inv-loop μ-loop
 loop-less c = search needs
 
--- src/table.rt:41:5
 loop-again : tie.Need-loop-again Inv-loop μ-loop
 loop-again c = (search needs, simp length-set (c .before .before .before .loop .inv .1), fill-more (c .before .before .before .loop .sets) (c .before .before .before .before .before .before .args .sets .now) (entries 8 (length (c .before .before .before .before .before .before .args .sets .now)) (c .before .before .before .before .before .before .args .bytes .now)) (c .before .before .before .loop .i) (c .before .before .before .loop .inv .2) (entries-length 8 (length (c .before .before .before .before .before .before .args .sets .now)) (c .before .before .before .before .before .before .args .bytes .now)) 0 (omega arith) (entry-read 8 (length (c .before .before .before .before .before .before .args .sets .now)) (c .before .before .before .before .before .before .args .bytes .now) (c .before .before .before .loop .i) (omega arith) (c .read .ensures)))
 
--- src/table.rt:36:1
 same-length : tie.Need-same-length Inv-loop μ-loop
 same-length c = c .before .loop .inv .1
 
--- src/table.rt:36:1
 returns : tie.Need-returns Inv-loop μ-loop
 returns c = fill-end (c .before .loop .sets) (c .before .before .before .before .args .sets .now) (entries 8 (length (c .before .before .before .before .args .sets .now)) (c .before .before .before .before .args .bytes .now)) (c .before .loop .i) (c .before .loop .inv .2) (entries-length 8 (length (c .before .before .before .before .args .sets .now)) (c .before .before .before .before .args .bytes .now)) (c .before .loop .inv .0) (omega arith)
 

@@ -1,32 +1,22 @@
+-- `driver::clause::kefthrun_clause` meets its contract.
 use borrow.Author.Needs.{needs}
-use Rattle.driver.specs.Buffers.{Buffers, buffersOf}
-use native.Mathlib.Omega.{arith}
+use Rattle.driver.specs.Buffers.{buffersOf}
 use Rattle.driver.proofs.Laws.Outcomes.{clause-short, clause-on, sizes}
 use Rattle.driver.proofs.clause.kefthrun_clause.Statement.{statement}
 use Rattle.driver.proofs.clause.kefthrun_clause.Tie as tie
-use Rattle.driver.proofs.clause.kefthrun_clause.Reads as reads
-use Rattle.driver.proofs.clause.kefthrun_clause.Lts as lts
-use Rattle.driver.proofs.buffers.is_whole.Reads as is-whole-reads
-use Rattle.driver.proofs.clause.clause_whole.Reads as clause-whole-reads
-use Rattle.driver.proofs.result.pack.Reads as pack-reads
 
--- src/clause.rt:49:9
 is-whole-requires : tie.Need-is-whole-requires
 is-whole-requires c κs = search needs
 
--- src/clause.rt:50:9
 pack-requires : tie.Need-pack-requires
 pack-requires c κs = search needs
 
--- src/clause.rt:50:9
 returns : tie.Need-returns
 returns c = clause-short (buffersOf (c .before .before .before .before .before .before .before .before .args .literals .now) (c .before .before .before .before .before .before .before .before .args .ends .now) (c .before .before .before .before .before .before .before .before .args .sets .now) (c .before .before .before .before .before .before .before .before .args .kinds .now) (c .before .before .before .before .before .before .before .before .args .state .now)) (c .before .before .before .before .before .before .before .before .args .clause) (c .before .before .is-whole .ensures) (c .before .if1 .taken) (c .pack .ensures)
 
--- src/clause.rt:52:5
 clause-whole-requires : tie.Need-clause-whole-requires
 clause-whole-requires c κs = let z = sizes (buffersOf (c .before .before .before .before .before .before .before .args .literals .now) (c .before .before .before .before .before .before .before .args .ends .now) (c .before .before .before .before .before .before .before .args .sets .now) (c .before .before .before .before .before .before .before .args .kinds .now) (c .before .before .before .before .before .before .before .args .state .now)) (c .before .before .before .before .before .before .before .args .state .now) (c .before .is-whole .ensures) (c .if1 .left) in (z .literals, z .ends, z .sets, z .state)
 
--- src/clause.rt:38:1
 returns-2 : tie.Need-returns-2
 returns-2 c = clause-on (buffersOf (c .before .before .before .before .before .before .before .before .args .literals .now) (c .before .before .before .before .before .before .before .before .args .ends .now) (c .before .before .before .before .before .before .before .before .args .sets .now) (c .before .before .before .before .before .before .before .before .args .kinds .now) (c .before .before .before .before .before .before .before .before .args .state .now)) (c .before .before .before .before .before .before .before .before .args .clause) (c .before .before .is-whole .ensures) (c .before .if1 .left) (c .clause-whole .ensures)
 

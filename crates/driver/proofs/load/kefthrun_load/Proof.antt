@@ -1,77 +1,55 @@
+-- `driver::load::kefthrun_load` meets its contract.
 use borrow.Author.Needs.{needs}
-use Rattle.driver.specs.Buffers.{Buffers, buffersOf}
-use native.Mathlib.Omega.{arith}
+use Rattle.driver.specs.Buffers.{buffersOf}
 use Rattle.driver.proofs.Laws.Outcomes.{load-short, load-on, sizes}
 use Rattle.driver.proofs.load.kefthrun_load.Statement.{statement}
 use Rattle.driver.proofs.load.kefthrun_load.Tie as tie
-use Rattle.driver.proofs.load.kefthrun_load.Reads as reads
-use Rattle.driver.proofs.load.kefthrun_load.Lts as lts
-use Rattle.driver.proofs.buffers.is_whole.Reads as is-whole-reads
-use Rattle.driver.proofs.buffers.zero_state.Reads as zero-state-reads
-use Rattle.driver.proofs.load.load_whole.Reads as load-whole-reads
-use Rattle.driver.proofs.result.pack.Reads as pack-reads
 
--- src/load.rt:58:9
 is-whole-requires : tie.Need-is-whole-requires
 is-whole-requires c κs = search needs
 
--- src/load.rt:59:9
 zero-state-requires : tie.Need-zero-state-requires
 zero-state-requires c κs = search needs
 
--- src/load.rt:60:9
 pack-requires : tie.Need-pack-requires
 pack-requires c κs = search needs
 
--- src/load.rt:60:9
 same-length : tie.Need-same-length
 same-length c = search needs
 
--- src/load.rt:60:9
 same-length-2 : tie.Need-same-length-2
 same-length-2 c = search needs
 
--- src/load.rt:60:9
 same-length-3 : tie.Need-same-length-3
 same-length-3 c = search needs
 
--- src/load.rt:60:9
 same-length-4 : tie.Need-same-length-4
 same-length-4 c = search needs
 
--- src/load.rt:60:9
 same-length-5 : tie.Need-same-length-5
 same-length-5 c = search needs
 
--- src/load.rt:60:9
 returns : tie.Need-returns
 returns c = load-short (buffersOf (c .before .before .before .before .before .before .before .before .before .before .before .before .before .before .before .before .before .before .args .literals .now) (c .before .before .before .before .before .before .before .before .before .before .before .before .before .before .before .before .before .before .args .ends .now) (c .before .before .before .before .before .before .before .before .before .before .before .before .before .before .before .before .before .before .args .sets .now) (c .before .before .before .before .before .before .before .before .before .before .before .before .before .before .before .before .before .before .args .kinds .now) (c .before .before .before .before .before .before .before .before .before .before .before .before .before .before .before .before .before .before .args .state .now)) (c .before .before .before .before .before .before .before .before .before .before .before .before .before .before .before .before .before .before .args .text .now) (c .before .before .before .before .before .before .is-whole .ensures) (c .before .before .before .before .before .if1 .taken) (c .before .before .before .zero-state .ensures) (c .pack .ensures)
 
--- src/load.rt:62:5
 load-whole-requires : tie.Need-load-whole-requires
 load-whole-requires c κs = let z = sizes (buffersOf (c .before .before .before .before .before .before .before .before .before .before .before .before .before .before .before .before .before .before .args .literals .now) (c .before .before .before .before .before .before .before .before .before .before .before .before .before .before .before .before .before .before .args .ends .now) (c .before .before .before .before .before .before .before .before .before .before .before .before .before .before .before .before .before .before .args .sets .now) (c .before .before .before .before .before .before .before .before .before .before .before .before .before .before .before .before .before .before .args .kinds .now) (c .before .before .before .before .before .before .before .before .before .before .before .before .before .before .before .before .before .before .args .state .now)) (c .before .before .before .before .before .before .before .before .before .before .before .before .before .before .before .before .before .before .args .text .now) (c .before .before .before .before .before .before .is-whole .ensures) (c .before .before .before .before .before .if1 .left) in (z .literals, z .ends, z .sets, z .kinds, z .state)
 
--- src/load.rt:42:1
 same-length-6 : tie.Need-same-length-6
 same-length-6 c = search needs
 
--- src/load.rt:42:1
 same-length-7 : tie.Need-same-length-7
 same-length-7 c = search needs
 
--- src/load.rt:42:1
 same-length-8 : tie.Need-same-length-8
 same-length-8 c = search needs
 
--- src/load.rt:42:1
 same-length-9 : tie.Need-same-length-9
 same-length-9 c = search needs
 
--- src/load.rt:42:1
 same-length-10 : tie.Need-same-length-10
 same-length-10 c = search needs
 
--- src/load.rt:42:1
 returns-2 : tie.Need-returns-2
 returns-2 c = load-on (buffersOf (c .before .before .before .before .before .before .before .before .before .before .before .before .before .before .before .before .before .before .before .before .before .before .before .before .before .before .before .before .before .args .literals .now) (c .before .before .before .before .before .before .before .before .before .before .before .before .before .before .before .before .before .before .before .before .before .before .before .before .before .before .before .before .before .args .ends .now) (c .before .before .before .before .before .before .before .before .before .before .before .before .before .before .before .before .before .before .before .before .before .before .before .before .before .before .before .before .before .args .sets .now) (c .before .before .before .before .before .before .before .before .before .before .before .before .before .before .before .before .before .before .before .before .before .before .before .before .before .before .before .before .before .args .kinds .now) (c .before .before .before .before .before .before .before .before .before .before .before .before .before .before .before .before .before .before .before .before .before .before .before .before .before .before .before .before .before .args .state .now)) (c .before .before .before .before .before .before .before .before .before .before .before .before .before .before .before .before .before .before .before .before .before .before .before .before .before .before .before .before .before .args .text .now) (c .before .before .before .before .before .before .before .before .before .before .before .before .before .before .before .before .before .is-whole .ensures) (c .before .before .before .before .before .before .before .before .before .before .before .before .before .before .before .before .if1 .left) (c .before .before .before .before .before .before .before .before .before .before .load-whole .ensures)
 

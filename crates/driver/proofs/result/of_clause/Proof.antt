@@ -1,42 +1,32 @@
+-- `driver::result::of_clause` meets its contract.
 use borrow.Author.Needs.{needs}
 use Rattle.questions.specs.Answers.{lengthTold}
 use Rattle.driver.specs.Results.{clauseResult}
 use Rattle.driver.proofs.result.of_clause.Statement.{statement}
 use Rattle.driver.proofs.result.of_clause.Tie as tie
-use Rattle.driver.proofs.result.of_clause.Reads as reads
-use Rattle.driver.proofs.result.of_clause.Lts as lts
-use Rattle.driver.proofs.result.pack.Reads as pack-reads
 
--- src/result.rt:40:30
 enum-known-answer : tie.Need-enum-known-answer
 enum-known-answer c = search needs
 
--- src/result.rt:40:49
 cast-pack : tie.Need-cast-pack
 cast-pack c = search needs
 
--- src/result.rt:40:41
 pack-requires : tie.Need-pack-requires
 pack-requires c κs = search needs
 
--- src/result.rt:41:31
 enum-known-answer-2 : tie.Need-enum-known-answer-2
 enum-known-answer-2 c = search needs
 
--- src/result.rt:41:50
 cast-pack-2 : tie.Need-cast-pack-2
 cast-pack-2 c = search needs
 
--- src/result.rt:41:42
 pack-requires-2 : tie.Need-pack-requires-2
 pack-requires-2 c κs = search needs
 
--- src/result.rt:36:1
 returns : tie.Need-returns
 unfolding clauseResult lengthTold
 returns c = rw (c .before .before .answer .given .1) (c .pack .ensures)
 
--- src/result.rt:36:1
 returns-2 : tie.Need-returns-2
 unfolding clauseResult lengthTold
 returns-2 c = rw (c .before .before .answer2 .given .1) (c .pack2 .ensures)

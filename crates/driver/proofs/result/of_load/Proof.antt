@@ -1,33 +1,25 @@
+-- `driver::result::of_load` meets its contract.
 use borrow.Author.Needs.{needs}
 use Rattle.driver.specs.Results.{loadResult}
 use Rattle.driver.proofs.result.of_load.Statement.{statement}
 use Rattle.driver.proofs.result.of_load.Tie as tie
-use Rattle.driver.proofs.result.of_load.Reads as reads
-use Rattle.driver.proofs.result.of_load.Lts as lts
-use Rattle.driver.proofs.result.pack.Reads as pack-reads
 
--- src/result.rt:18:33
 enum-told : tie.Need-enum-told
 enum-told c = search needs
 
--- src/result.rt:18:33
 pack-requires : tie.Need-pack-requires
 pack-requires c κs = search needs
 
--- src/result.rt:19:29
 enum-known-answer : tie.Need-enum-known-answer
 enum-known-answer c = search needs
 
--- src/result.rt:19:46
 pack-requires-2 : tie.Need-pack-requires-2
 pack-requires-2 c κs = search needs
 
--- src/result.rt:14:1
 returns : tie.Need-returns
 unfolding loadResult
 returns c = rw (c .before .enum-told .given .1) (c .pack .ensures)
 
--- src/result.rt:14:1
 returns-2 : tie.Need-returns-2
 unfolding loadResult
 returns-2 c = rw (c .before .before .answer .given .1) (c .pack2 .ensures)

@@ -1,46 +1,35 @@
+-- `driver::result::of_run` meets its contract.
 use borrow.Author.Needs.{needs}
 use Rattle.driver.specs.Results.{runResult}
 use Rattle.driver.proofs.result.of_run.Statement.{statement}
 use Rattle.driver.proofs.result.of_run.Tie as tie
-use Rattle.driver.proofs.result.of_run.Reads as reads
-use Rattle.driver.proofs.result.of_run.Lts as lts
-use Rattle.driver.proofs.result.pack.Reads as pack-reads
 
--- src/result.rt:27:28
 enum-known-answer : tie.Need-enum-known-answer
 enum-known-answer c = search needs
 
--- src/result.rt:27:46
 pack-requires : tie.Need-pack-requires
 pack-requires c κs = search needs
 
--- src/result.rt:28:25
 enum-known-answer-2 : tie.Need-enum-known-answer-2
 enum-known-answer-2 c = search needs
 
--- src/result.rt:28:35
 pack-requires-2 : tie.Need-pack-requires-2
 pack-requires-2 c κs = search needs
 
--- src/result.rt:29:24
 enum-known-answer-3 : tie.Need-enum-known-answer-3
 enum-known-answer-3 c = search needs
 
--- src/result.rt:29:41
 pack-requires-3 : tie.Need-pack-requires-3
 pack-requires-3 c κs = search needs
 
--- src/result.rt:23:1
 returns : tie.Need-returns
 unfolding runResult
 returns c = rw (c .before .before .answer .given .1) (c .pack .ensures)
 
--- src/result.rt:23:1
 returns-2 : tie.Need-returns-2
 unfolding runResult
 returns-2 c = rw (c .before .before .answer2 .given .1) (c .pack2 .ensures)
 
--- src/result.rt:23:1
 returns-3 : tie.Need-returns-3
 unfolding runResult
 returns-3 c = rw (c .before .before .answer3 .given .1) (c .pack3 .ensures)

@@ -1,42 +1,32 @@
+-- `driver::result::of_show` meets its contract.
 use borrow.Author.Needs.{needs}
 use Rattle.questions.specs.Answers.{lengthTold}
 use Rattle.driver.specs.Results.{showResult}
 use Rattle.driver.proofs.result.of_show.Statement.{statement}
 use Rattle.driver.proofs.result.of_show.Tie as tie
-use Rattle.driver.proofs.result.of_show.Reads as reads
-use Rattle.driver.proofs.result.of_show.Lts as lts
-use Rattle.driver.proofs.result.pack.Reads as pack-reads
 
--- src/result.rt:50:30
 enum-known-answer : tie.Need-enum-known-answer
 enum-known-answer c = search needs
 
--- src/result.rt:50:63
 cast-pack : tie.Need-cast-pack
 cast-pack c = search needs
 
--- src/result.rt:50:41
 pack-requires : tie.Need-pack-requires
 pack-requires c κs = search needs
 
--- src/result.rt:51:31
 enum-known-answer-2 : tie.Need-enum-known-answer-2
 enum-known-answer-2 c = search needs
 
--- src/result.rt:51:50
 cast-pack-2 : tie.Need-cast-pack-2
 cast-pack-2 c = search needs
 
--- src/result.rt:51:42
 pack-requires-2 : tie.Need-pack-requires-2
 pack-requires-2 c κs = search needs
 
--- src/result.rt:46:1
 returns : tie.Need-returns
 unfolding showResult lengthTold
 returns c = rw (c .before .before .answer .given .1) (c .pack .ensures)
 
--- src/result.rt:46:1
 returns-2 : tie.Need-returns-2
 unfolding showResult lengthTold
 returns-2 c = rw (c .before .before .answer2 .given .1) (c .pack2 .ensures)

@@ -1,71 +1,52 @@
+-- `driver::run::kefthrun_run` meets its contract.
 use borrow.Author.Needs.{needs}
-use Rattle.driver.specs.Buffers.{Buffers, buffersOf}
+use Rattle.driver.specs.Buffers.{buffersOf}
 use Rattle.driver.proofs.Laws.Outcomes.{run-short, run-on, sizes}
 use Rattle.driver.proofs.run.kefthrun_run.Statement.{statement}
 use Rattle.driver.proofs.run.kefthrun_run.Tie as tie
-use Rattle.driver.proofs.run.kefthrun_run.Reads as reads
-use Rattle.driver.proofs.run.kefthrun_run.Lts as lts
-use Rattle.driver.proofs.buffers.is_whole.Reads as is-whole-reads
-use Rattle.driver.proofs.result.pack.Reads as pack-reads
-use Rattle.driver.proofs.run.run_whole.Reads as run-whole-reads
 
--- src/run.rt:62:9
 is-whole-requires : tie.Need-is-whole-requires
 is-whole-requires c κs = search needs
 
--- src/run.rt:63:9
 pack-requires : tie.Need-pack-requires
 pack-requires c κs = search needs
 
--- src/run.rt:63:9
 same-length : tie.Need-same-length
 same-length c = search needs
 
--- src/run.rt:63:9
 same-length-2 : tie.Need-same-length-2
 same-length-2 c = search needs
 
--- src/run.rt:63:9
 same-length-3 : tie.Need-same-length-3
 same-length-3 c = search needs
 
--- src/run.rt:63:9
 same-length-4 : tie.Need-same-length-4
 same-length-4 c = search needs
 
--- src/run.rt:63:9
 same-length-5 : tie.Need-same-length-5
 same-length-5 c = search needs
 
--- src/run.rt:63:9
 returns : tie.Need-returns
 returns c = run-short (buffersOf (c .before .before .before .before .before .before .before .before .before .before .before .before .before .before .args .literals .now) (c .before .before .before .before .before .before .before .before .before .before .before .before .before .before .args .ends .now) (c .before .before .before .before .before .before .before .before .before .before .before .before .before .before .args .sets .now) (c .before .before .before .before .before .before .before .before .before .before .before .before .before .before .args .kinds .now) (c .before .before .before .before .before .before .before .before .before .before .before .before .before .before .args .state .now)) (c .before .before .before .before .before .before .before .before .before .before .before .before .before .before .args .records .now) (c .before .before .is-whole .ensures) (c .before .if1 .taken) (c .pack .ensures)
 
--- src/run.rt:65:5
 run-whole-requires : tie.Need-run-whole-requires
 run-whole-requires c κs = let z = sizes (buffersOf (c .before .before .before .before .before .before .before .before .before .before .before .before .before .before .before .before .before .before .args .literals .now) (c .before .before .before .before .before .before .before .before .before .before .before .before .before .before .before .before .before .before .args .ends .now) (c .before .before .before .before .before .before .before .before .before .before .before .before .before .before .before .before .before .before .args .sets .now) (c .before .before .before .before .before .before .before .before .before .before .before .before .before .before .before .before .before .before .args .kinds .now) (c .before .before .before .before .before .before .before .before .before .before .before .before .before .before .before .before .before .before .args .state .now)) (c .before .before .before .before .before .before .before .before .before .before .before .before .before .before .before .before .before .before .args .records .now) (c .before .before .before .before .before .before .is-whole .ensures) (c .before .before .before .before .before .if1 .left) in (z .literals, z .ends, z .sets, z .state)
 
--- src/run.rt:46:1
 same-length-6 : tie.Need-same-length-6
 same-length-6 c = search needs
 
--- src/run.rt:46:1
 same-length-7 : tie.Need-same-length-7
 same-length-7 c = search needs
 
--- src/run.rt:46:1
 same-length-8 : tie.Need-same-length-8
 same-length-8 c = search needs
 
--- src/run.rt:46:1
 same-length-9 : tie.Need-same-length-9
 same-length-9 c = search needs
 
--- src/run.rt:46:1
 same-length-10 : tie.Need-same-length-10
 same-length-10 c = search needs
 
--- src/run.rt:46:1
 returns-2 : tie.Need-returns-2
 returns-2 c = run-on (buffersOf (c .before .before .before .before .before .before .before .before .before .before .before .before .before .before .before .before .before .before .before .before .before .before .before .before .before .before .before .before .before .args .literals .now) (c .before .before .before .before .before .before .before .before .before .before .before .before .before .before .before .before .before .before .before .before .before .before .before .before .before .before .before .before .before .args .ends .now) (c .before .before .before .before .before .before .before .before .before .before .before .before .before .before .before .before .before .before .before .before .before .before .before .before .before .before .before .before .before .args .sets .now) (c .before .before .before .before .before .before .before .before .before .before .before .before .before .before .before .before .before .before .before .before .before .before .before .before .before .before .before .before .before .args .kinds .now) (c .before .before .before .before .before .before .before .before .before .before .before .before .before .before .before .before .before .before .before .before .before .before .before .before .before .before .before .before .before .args .state .now)) (c .before .before .before .before .before .before .before .before .before .before .before .before .before .before .before .before .before .before .before .before .before .before .before .before .before .before .before .before .before .args .records .now) (c .before .before .before .before .before .before .before .before .before .before .before .before .before .before .before .before .before .is-whole .ensures) (c .before .before .before .before .before .before .before .before .before .before .before .before .before .before .before .before .if1 .left) (c .before .before .before .before .before .before .before .before .before .before .run-whole .ensures)
 

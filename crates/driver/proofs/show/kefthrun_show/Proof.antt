@@ -1,32 +1,22 @@
+-- `driver::show::kefthrun_show` meets its contract.
 use borrow.Author.Needs.{needs}
-use Rattle.driver.specs.Buffers.{Buffers, buffersOf}
-use native.Mathlib.Omega.{arith}
+use Rattle.driver.specs.Buffers.{buffersOf}
 use Rattle.driver.proofs.Laws.Outcomes.{show-short, show-on, sizes}
 use Rattle.driver.proofs.show.kefthrun_show.Statement.{statement}
 use Rattle.driver.proofs.show.kefthrun_show.Tie as tie
-use Rattle.driver.proofs.show.kefthrun_show.Reads as reads
-use Rattle.driver.proofs.show.kefthrun_show.Lts as lts
-use Rattle.driver.proofs.buffers.is_whole.Reads as is-whole-reads
-use Rattle.driver.proofs.result.pack.Reads as pack-reads
-use Rattle.driver.proofs.show.show_whole.Reads as show-whole-reads
 
--- src/show.rt:52:9
 is-whole-requires : tie.Need-is-whole-requires
 is-whole-requires c κs = search needs
 
--- src/show.rt:53:9
 pack-requires : tie.Need-pack-requires
 pack-requires c κs = search needs
 
--- src/show.rt:53:9
 returns : tie.Need-returns
 returns c = show-short (buffersOf (c .before .before .before .before .before .before .before .before .args .literals .now) (c .before .before .before .before .before .before .before .before .args .ends .now) (c .before .before .before .before .before .before .before .before .args .sets .now) (c .before .before .before .before .before .before .before .before .args .kinds .now) (c .before .before .before .before .before .before .before .before .args .state .now)) (c .before .before .before .before .before .before .before .before .args .clause) (c .before .before .is-whole .ensures) (c .before .if1 .taken) (c .pack .ensures)
 
--- src/show.rt:55:5
 show-whole-requires : tie.Need-show-whole-requires
 show-whole-requires c κs = let z = sizes (buffersOf (c .before .before .before .before .before .before .before .args .literals .now) (c .before .before .before .before .before .before .before .args .ends .now) (c .before .before .before .before .before .before .before .args .sets .now) (c .before .before .before .before .before .before .before .args .kinds .now) (c .before .before .before .before .before .before .before .args .state .now)) (c .before .before .before .before .before .before .before .args .state .now) (c .before .is-whole .ensures) (c .if1 .left) in (z .literals, z .ends, z .sets, z .state)
 
--- src/show.rt:41:1
 returns-2 : tie.Need-returns-2
 returns-2 c = show-on (buffersOf (c .before .before .before .before .before .before .before .before .args .literals .now) (c .before .before .before .before .before .before .before .before .args .ends .now) (c .before .before .before .before .before .before .before .before .args .sets .now) (c .before .before .before .before .before .before .before .before .args .kinds .now) (c .before .before .before .before .before .before .before .before .args .state .now)) (c .before .before .before .before .before .before .before .before .args .clause) (c .before .before .is-whole .ensures) (c .before .if1 .left) (c .show-whole .ensures)
 

@@ -1,66 +1,46 @@
+-- `driver::show::show_whole` meets its contract.
 use borrow.Author.Needs.{needs}
-use Rattle.driver.specs.Buffers.{Buffers, buffersOf}
-use native.Mathlib.Omega.{arith}
+use Rattle.driver.specs.Buffers.{buffersOf}
 use Rattle.driver.proofs.Laws.Outcomes.{show-told}
 use Rattle.driver.proofs.show.show_whole.Statement.{statement}
 use Rattle.driver.proofs.show.show_whole.Tie as tie
-use Rattle.driver.proofs.show.show_whole.Reads as reads
-use Rattle.driver.proofs.show.show_whole.Lts as lts
-use Rattle.codec.proofs.state.read_state.Reads as read-state-reads
-use Rattle.driver.proofs.buffers.clause_start.Reads as clause-start-reads
-use Rattle.driver.proofs.buffers.read_tables.Reads as read-tables-reads
-use Rattle.driver.proofs.result.of_show.Reads as of-show-reads
-use Rattle.questions.proofs.clause_length.Reads as clause-length-reads
 
--- src/show.rt:32:26
 slice-aggregate-read-tables : tie.Need-slice-aggregate-read-tables
 slice-aggregate-read-tables c = search needs
 
--- src/show.rt:32:46
 slice-aggregate-read-tables-2 : tie.Need-slice-aggregate-read-tables-2
 slice-aggregate-read-tables-2 c = search needs
 
--- src/show.rt:32:62
 slice-aggregate-read-tables-3 : tie.Need-slice-aggregate-read-tables-3
 slice-aggregate-read-tables-3 c = search needs
 
--- src/show.rt:32:5
 read-tables-requires : tie.Need-read-tables-requires
 read-tables-requires c κs = search needs
 
--- src/show.rt:33:9
 read-state-requires : tie.Need-read-state-requires
 read-state-requires c κs = search needs
 
--- src/show.rt:35:43
 slice-aggregate-clause-length : tie.Need-slice-aggregate-clause-length
 slice-aggregate-clause-length c = search needs
 
--- src/show.rt:35:59
 slice-aggregate-clause-length-2 : tie.Need-slice-aggregate-clause-length-2
 slice-aggregate-clause-length-2 c = search needs
 
--- src/show.rt:35:71
 slice-aggregate-clause-length-3 : tie.Need-slice-aggregate-clause-length-3
 slice-aggregate-clause-length-3 c = search needs
 
--- src/show.rt:35:9
 clause-length-requires : tie.Need-clause-length-requires
 clause-length-requires c κs = search needs
 
--- src/show.rt:36:39
 slice-aggregate-clause-start : tie.Need-slice-aggregate-clause-start
 slice-aggregate-clause-start c = search needs
 
--- src/show.rt:36:9
 clause-start-requires : tie.Need-clause-start-requires
 clause-start-requires c κs = search needs
 
--- src/show.rt:37:5
 of-show-requires : tie.Need-of-show-requires
 of-show-requires c κs = search needs
 
--- src/show.rt:15:1
 returns : tie.Need-returns
 returns c = show-told (buffersOf (c .before .before .before .before .before .before .before .before .before .before .before .before .before .before .before .before .before .before .before .before .args .literals .now) (c .before .before .before .before .before .before .before .before .before .before .before .before .before .before .before .before .before .before .before .before .args .ends .now) (c .before .before .before .before .before .before .before .before .before .before .before .before .before .before .before .before .before .before .before .before .args .sets .now) (c .before .before .before .before .before .before .before .before .before .before .before .before .before .before .before .before .before .before .before .before .args .kinds .now) (c .before .before .before .before .before .before .before .before .before .before .before .before .before .before .before .before .before .before .before .before .args .state .now)) (c .before .before .before .before .before .before .before .before .before .before .before .read-tables .ensures .0) (c .before .before .before .before .before .before .before .before .before .before .before .read-tables .ensures .1) (c .before .before .before .before .before .before .before .before .before .before .before .read-tables .ensures .2) (c .before .before .before .before .before .before .before .read-state .ensures) (c .before .before .before .before .before .before .before .before .before .before .before .before .before .before .before .before .before .before .before .before .args .clause) (c .before .before .before .clause-length .ensures) (c .before .clause-start .ensures) (c .of-show .ensures)
 

@@ -1,57 +1,40 @@
+-- `driver::variable::variable_whole` meets its contract.
 use borrow.Author.Needs.{needs}
-use Rattle.driver.specs.Buffers.{Buffers, buffersOf}
-use native.Mathlib.Omega.{arith}
+use Rattle.driver.specs.Buffers.{buffersOf}
 use Rattle.driver.proofs.Laws.Outcomes.{variable-told}
 use Rattle.driver.proofs.variable.variable_whole.Statement.{statement}
 use Rattle.driver.proofs.variable.variable_whole.Tie as tie
-use Rattle.driver.proofs.variable.variable_whole.Reads as reads
-use Rattle.driver.proofs.variable.variable_whole.Lts as lts
-use Rattle.codec.proofs.state.read_state.Reads as read-state-reads
-use Rattle.driver.proofs.buffers.read_tables.Reads as read-tables-reads
-use Rattle.driver.proofs.result.of_variable.Reads as of-variable-reads
-use Rattle.questions.proofs.variable.Reads as variable-reads
 
--- src/variable.rt:30:26
 slice-aggregate-read-tables : tie.Need-slice-aggregate-read-tables
 slice-aggregate-read-tables c = search needs
 
--- src/variable.rt:30:46
 slice-aggregate-read-tables-2 : tie.Need-slice-aggregate-read-tables-2
 slice-aggregate-read-tables-2 c = search needs
 
--- src/variable.rt:30:62
 slice-aggregate-read-tables-3 : tie.Need-slice-aggregate-read-tables-3
 slice-aggregate-read-tables-3 c = search needs
 
--- src/variable.rt:30:5
 read-tables-requires : tie.Need-read-tables-requires
 read-tables-requires c κs = search needs
 
--- src/variable.rt:31:9
 read-state-requires : tie.Need-read-state-requires
 read-state-requires c κs = search needs
 
--- src/variable.rt:33:38
 slice-aggregate-variable : tie.Need-slice-aggregate-variable
 slice-aggregate-variable c = search needs
 
--- src/variable.rt:33:54
 slice-aggregate-variable-2 : tie.Need-slice-aggregate-variable-2
 slice-aggregate-variable-2 c = search needs
 
--- src/variable.rt:33:66
 slice-aggregate-variable-3 : tie.Need-slice-aggregate-variable-3
 slice-aggregate-variable-3 c = search needs
 
--- src/variable.rt:33:9
 variable-requires : tie.Need-variable-requires
 variable-requires c κs = search needs
 
--- src/variable.rt:34:5
 of-variable-requires : tie.Need-of-variable-requires
 of-variable-requires c κs = search needs
 
--- src/variable.rt:15:1
 returns : tie.Need-returns
 returns c = variable-told (buffersOf (c .before .before .before .before .before .before .before .before .before .before .before .before .before .before .before .before .before .before .args .literals .now) (c .before .before .before .before .before .before .before .before .before .before .before .before .before .before .before .before .before .before .args .ends .now) (c .before .before .before .before .before .before .before .before .before .before .before .before .before .before .before .before .before .before .args .sets .now) (c .before .before .before .before .before .before .before .before .before .before .before .before .before .before .before .before .before .before .args .kinds .now) (c .before .before .before .before .before .before .before .before .before .before .before .before .before .before .before .before .before .before .args .state .now)) (c .before .before .before .before .before .before .before .before .before .read-tables .ensures .0) (c .before .before .before .before .before .before .before .before .before .read-tables .ensures .1) (c .before .before .before .before .before .before .before .before .before .read-tables .ensures .2) (c .before .before .before .before .before .read-state .ensures) (c .before .before .before .before .before .before .before .before .before .before .before .before .before .before .before .before .before .before .args .variable) (c .before .variable .ensures) (c .of-variable .ensures)
 
