@@ -2,9 +2,8 @@
 ghost use mathlib.Core.Path.{_≡_};
 ghost use Prim.Native.Nat.{_≤_};
 ghost use lib.ListN.{length};
-ghost use Rattle.dqdimacs.specs.Loading.{loadOf};
-ghost use Rattle.driver.specs.Buffers.{buffersOf, tablesIn};
-ghost use Rattle.driver.specs.Calls.{After, loaded, loadBytes};
+ghost use Rattle.driver.specs.Buffers.{buffersOf};
+ghost use Rattle.driver.specs.Calls.{After, loadBytes, loadWhole};
 use super::buffers;
 use super::result;
 use codec::state as state_codec;
@@ -24,8 +23,7 @@ fn load_whole(
           buffers = buffersOf (now (literals .exit)) (now (ends .exit)) (now (sets .exit)) (now (kinds .exit)) (now (state .exit));
           result = r;
         })
-        (loaded (buffersOf (now (literals .entry)) (now (ends .entry)) (now (sets .entry)) (now (kinds .entry)) (now (state .entry)))
-        (loadOf (tablesIn (buffersOf (now (literals .entry)) (now (ends .entry)) (now (sets .entry)) (now (kinds .entry)) (now (state .entry)))) (now (text .entry)))) ⌝ }
+        (loadWhole (buffersOf (now (literals .entry)) (now (ends .entry)) (now (sets .entry)) (now (kinds .entry)) (now (state .entry))) (now (text .entry))) ⌝ }
 {
     let mut literal_table = [0i16; 8192];
     let mut end_table = [0u16; 2048];

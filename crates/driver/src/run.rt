@@ -2,9 +2,8 @@
 ghost use mathlib.Core.Path.{_≡_};
 ghost use Prim.Native.Nat.{_≤_};
 ghost use lib.ListN.{length};
-ghost use Rattle.steps.specs.Steps.{runOf};
-ghost use Rattle.driver.specs.Buffers.{buffersOf, tablesIn, stateIn};
-ghost use Rattle.driver.specs.Calls.{After, ran, runBytes};
+ghost use Rattle.driver.specs.Buffers.{buffersOf};
+ghost use Rattle.driver.specs.Calls.{After, runBytes, runWhole};
 use super::buffers;
 use super::result;
 use codec::state as state_codec;
@@ -25,9 +24,7 @@ fn run_whole(
           buffers = buffersOf (now (literals .exit)) (now (ends .exit)) (now (sets .exit)) (now (kinds .exit)) (now (state .exit));
           result = r;
         })
-        (ran (buffersOf (now (literals .entry)) (now (ends .entry)) (now (sets .entry)) (now (kinds .entry)) (now (state .entry)))
-        (runOf (tablesIn (buffersOf (now (literals .entry)) (now (ends .entry)) (now (sets .entry)) (now (kinds .entry)) (now (state .entry))))
-        (stateIn (buffersOf (now (literals .entry)) (now (ends .entry)) (now (sets .entry)) (now (kinds .entry)) (now (state .entry)))) (now (records .entry)))) ⌝ }
+        (runWhole (buffersOf (now (literals .entry)) (now (ends .entry)) (now (sets .entry)) (now (kinds .entry)) (now (state .entry))) (now (records .entry))) ⌝ }
 {
     let mut literal_table = [0i16; 8192];
     let mut end_table = [0u16; 2048];

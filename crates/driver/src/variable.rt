@@ -2,10 +2,8 @@
 ghost use mathlib.Core.Path.{_≡_};
 ghost use Prim.Native.Nat.{_≤_};
 ghost use lib.ListN.{length};
-ghost use Rattle.questions.specs.Answers.{variableAnswer};
-ghost use Rattle.driver.specs.Buffers.{buffersOf, tablesIn, stateIn};
-ghost use Rattle.driver.specs.Results.{variableResult};
-ghost use Rattle.driver.specs.Calls.{variableBytes};
+ghost use Rattle.driver.specs.Buffers.{buffersOf};
+ghost use Rattle.driver.specs.Calls.{variableBytes, variableWhole};
 use super::buffers;
 use super::result;
 use codec::state as state_codec;
@@ -21,8 +19,7 @@ fn variable_whole(
     variable: u32,
 ) -> u64
     requires { ⌜ (16384 ≤ length (now literals)) × (4096 ≤ length (now ends)) × (4096 ≤ length (now sets)) × (16 ≤ length (now state)) ⌝ }
-    ensures { λ r. ⌜ r ≡ variableResult (variableAnswer (tablesIn (buffersOf (now (literals .entry)) (now (ends .entry)) (now (sets .entry)) (now (kinds .entry)) (now (state .entry))))
-        (stateIn (buffersOf (now (literals .entry)) (now (ends .entry)) (now (sets .entry)) (now (kinds .entry)) (now (state .entry)))) variable) ⌝ }
+    ensures { λ r. ⌜ r ≡ variableWhole (buffersOf (now (literals .entry)) (now (ends .entry)) (now (sets .entry)) (now (kinds .entry)) (now (state .entry))) variable ⌝ }
 {
     let mut literal_table = [0i16; 8192];
     let mut end_table = [0u16; 2048];
