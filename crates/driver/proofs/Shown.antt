@@ -1,22 +1,21 @@
 -- The claim of specs/Statements/Shown.antt.
-use mathlib.Core.Path.{_≡_, refl, ap, sym, _∙_}
-use mathlib.Core.Bool.{Bool, true, false, cond, _||_}
-use mathlib.Core.List.{List, []}
-use Prim.Native.Nat.{ℕ, _+_, _-_, _*_, _/_, _%_, _<_, _≤_}
+use mathlib.Core.Path.{_≡_, refl, sym, _∙_}
+use mathlib.Core.Bool.{Bool, true, false}
+use Prim.Native.Nat.{ℕ, _+_, _-_, _<_, _≤_}
 use native.Mathlib.Decide.{decLt}
 use native.Mathlib.Omega.{arith}
 use borrow.Author.Tests.{ne-eqb, le-ltb}
 use lib.Dec.{eqb, ltb}
 use lib.ListN.{length}
-use Rattle.dqbf.specs.Refusal.{Refusal, refusal}
-use Rattle.dqbf.specs.Rules.{unknown, clauseAt}
-use Rattle.dqbf.specs.Questions.{ClauseAnswer, noClause, clauseLength}
+use Rattle.dqbf.specs.Refusal.{refusal}
+use Rattle.dqbf.specs.Rules.{unknown}
+use Rattle.dqbf.specs.Questions.{ClauseAnswer, noClause}
 use Rattle.dqbf.specs.Questions as Questions
 use Rattle.dqbf.proofs.Laws.Tests.{no-or}
 use Rattle.tables.specs.declared.State.{State}
 use Rattle.tables.specs.Tables.{Tables, stretch, entry, modelIn}
 use Rattle.tables.specs.WellFormed.{long, wellFormed}
-use Rattle.tables.specs.Unusable.{unusable, unlessRefused}
+use Rattle.tables.specs.Unusable.{unlessRefused}
 use Rattle.tables.proofs.Laws.Unusable.{usable, number-ill, number-none}
 use Rattle.tables.proofs.Laws.Entries.{unknown-told, clause-at, range-rises, range-ends, range-narrow}
 use Rattle.questions.specs.Answers.{lengthAnswer, shownStart, shownClause}

@@ -1,6 +1,6 @@
 -- The fields of a result (specs/Results.antt).
 use mathlib.Core.Path.{_≡_}
-use Prim.Native.Nat.{ℕ, _+_, _*_, _/_, _%_, _<_}
+use Prim.Native.Nat.{ℕ, _<_}
 use native.Mathlib.Omega.{arith}
 use Rattle.driver.specs.Results.{packed, field}
 
