@@ -1,0 +1,4 @@
+pub mod Fits
+pub mod Outcomes
+pub mod Results
+pub mod Short

@@ -1,0 +1,184 @@
+-- Numbers of 16 bits: the numbers of refusal, the lines of a text, the steps and clauses of a run.
+use mathlib.Core.Path.{_≡_, refl}
+use mathlib.Core.Bool.{Bool, true, false, cond}
+use mathlib.Core.List.{List, [], _∷_, _++_}
+use mathlib.Core.Option.{Option, none, some}
+use Prim.Native.Nat.{ℕ, zero, suc, _+_, _<_, _≤_}
+use native.Mathlib.Omega.{arith}
+use borrow.Author.Tests.{ltb-false}
+use lib.Dec.{eqb, ltb}
+use lib.ListN.{length, drop}
+use Rattle.dqbf.specs.Limits.{tables, recordsLimit, textLimit, recordSize}
+use Rattle.dqbf.specs.Refusal.{Refusal, refusal, Test, _when_, first}
+use Rattle.dqbf.specs.Model.{Model, steps, lowestEmpty}
+use Rattle.dqbf.specs.Valid.{Valid}
+use Rattle.dqbf.specs.Text.{onto, pieces, isEmpty, lineFeed}
+use Rattle.dqbf.specs.Reading.{Form, comment, header, aLine, eLine, dLine, clauseLine, noForm, formOf, Phase, opening, prefixLines, clauseLines, Reader, start, lineTests, taken, Loaded, accepted, refused, atEnd, unless, readFrom, load}
+use Rattle.dqbf.specs.Record.{Record, resolution, reduction, fork, recordOf, stretches}
+use Rattle.dqbf.specs.Rules.{added, resolutionTests, reductionTests, forkTests, ruleTests, noRoom, tests}
+use Rattle.dqbf.specs.Run.{Examined, accepts, refuses, judged, examine, examineOr20, examineBytes, after, Verdict, refuted, open′, bad, verdictOf, goOn, runFrom, run}
+use Rattle.dqbf.specs.Run as Run
+use Rattle.dqbf.proofs.StepsKeepValid.{call-keeps}
+use Rattle.tables.specs.Spread.{stateOf}
+use Rattle.codec.specs.State.{counts}
+use Rattle.driver.proofs.Laws.Fits.{counts-small}
+
+abbrev pub Short : ℕ → Type 0
+Short n = n < 65536
+
+-- ---- numbers of refusal
+
+ShortTests : List Test → Type 0
+ShortTests [] = Unit {0}
+ShortTests ((r when c) ∷ ts) = Short (r .number) × ShortTests ts
+
+ShortRefusal : Option Refusal → Type 0
+ShortRefusal none = Unit {0}
+ShortRefusal (some r) = Short (r .number)
+
+first-short : (ts : List Test) → ShortTests ts → ShortRefusal (first ts)
+unfolding first ShortTests ShortRefusal
+first-short [] h = tt
+first-short ((r when true) ∷ ts) h = h .0
+first-short ((r when false) ∷ ts) h = first-short ts (h .1)
+
+one-more : (ts : List Test) (r : Refusal) (c : Bool) → Short (r .number) → ShortTests ts → ShortTests (ts ++ ((r when c) ∷ []))
+unfolding ShortTests
+one-more [] r c s h = (s, tt)
+one-more ((q when d) ∷ ts) r c s h = (h .0, one-more ts r c s (h .1))
+
+rule-short : (m : Model) (r : Record) → ShortTests (ruleTests m r)
+unfolding ShortTests ruleTests resolutionTests reductionTests forkTests
+rule-short m (resolution c d p) = (omega arith, (omega arith, (omega arith, (omega arith, (omega arith, tt)))))
+rule-short m (reduction c l) = (omega arith, (omega arith, (omega arith, (omega arith, tt))))
+rule-short m (fork c a b) = (omega arith, (omega arith, (omega arith, tt)))
+
+ShortExamined : Examined → Type 0
+ShortExamined (accepts a) = Unit {0}
+ShortExamined (refuses r) = Short (r .number)
+
+judged-short : (m : Model) (r : Record) (o : Option Refusal) → ShortRefusal o → ShortExamined (judged o (added m r))
+unfolding judged ShortRefusal ShortExamined
+judged-short m r none h = tt
+judged-short m r (some x) h = h
+
+record-short : (m : Model) (o : Option Record) → ShortExamined (examineOr20 tables m o)
+unfolding examineOr20 examine ShortExamined tests
+record-short m none = omega arith
+record-short m (some r) =
+    judged-short m r (first (tests tables m r)) (first-short (tests tables m r) (one-more (ruleTests m r) (refusal 25) (noRoom tables m (added m r)) (omega arith) (rule-short m r)))
+
+examine-short : (m : Model) (bytes : List ℕ) → ShortExamined (examineBytes tables m bytes)
+unfolding examineBytes
+examine-short m bytes = record-short m (recordOf bytes)
+
+-- ---- a run
+
+unfoldable pub ShortVerdict : Verdict → Type 0
+ShortVerdict (refuted s k) = Short s × Short k
+ShortVerdict (open′ s) = Short s
+ShortVerdict (bad s r) = Short s × Short (r .number)
+
+told-short : (m : Model) → Short (steps m) → Short (lowestEmpty m) → (c : Bool) → ShortVerdict (cond c (open′ (steps m)) (refuted (steps m) (lowestEmpty m)))
+unfolding ShortVerdict
+told-short m s k true = s
+told-short m s k false = (s, k)
+
+verdict-short : (m : Model) → Valid tables m → ShortVerdict (verdictOf m)
+unfolding verdictOf counts stateOf
+verdict-short m v = told-short m (counts-small m v 6) (counts-small m v 7) (eqb (lowestEmpty m) 0)
+
+going-short : (m : Model) (n : ℕ) (rest : Model → Run.Ran) → Short n → ((m′ : Model) → Valid tables m′ → ShortVerdict (rest m′ .verdict))
+    → (e : Examined) → ShortExamined e → Valid tables (after m e) → ShortVerdict (goOn e m n rest .verdict)
+unfolding goOn after ShortExamined ShortVerdict
+going-short m n rest h f (accepts a) k v = f _ v
+going-short m n rest h f (refuses r) k v = (h, k)
+
+from-short : (rs : List (List ℕ)) (n : ℕ) → n + length rs < 65536 → (m : Model) → Valid tables m → ShortVerdict (runFrom tables rs n m .verdict)
+unfolding runFrom Run.next
+from-short [] n h m v = verdict-short m v
+from-short (bytes ∷ rs) n h m v =
+    going-short m (suc n) (λ m′. runFrom tables rs (suc n) m′) (omega arith) (from-short rs (suc n) (omega arith)) (examineBytes tables m bytes) (examine-short m bytes)
+    (call-keeps tables m v (Run.stepCall bytes))
+
+stretches-few : (n : ℕ) (bytes : List ℕ) → length (stretches n bytes) ≤ n
+unfolding stretches
+stretches-few zero bytes = omega arith
+stretches-few (suc n) [] = omega arith
+stretches-few (suc n) (b ∷ bytes) = let h = stretches-few n (drop recordSize (b ∷ bytes)) in omega arith
+
+pub run-short : (m : Model) → Valid tables m → (bytes : List ℕ) → ShortVerdict (run tables m bytes .verdict)
+unfolding run ShortVerdict
+run-short m v bytes = go (ltb recordsLimit (length bytes)) refl
+  where
+    go : (c : Bool) → ltb recordsLimit (length bytes) ≡ c
+        → ShortVerdict (cond c (record { model = m; verdict = bad 0 (refusal 11) }) (runFrom tables (stretches (length bytes) bytes) 0 m) .verdict)
+    go true e = (omega arith, omega arith)
+    go false e = from-short (stretches (length bytes) bytes) 0 (omega (arith, stretches-few (length bytes) bytes, ltb-false recordsLimit (length bytes) e)) m v
+
+-- ---- a load
+
+unfoldable pub ShortLoaded : Loaded → Type 0
+ShortLoaded (accepted φ) = Unit {0}
+ShortLoaded (refused line number) = Short line × Short number
+
+line-short : (r : Reader) (f : Form) → ShortTests (lineTests r f)
+unfolding ShortTests lineTests
+line-short r comment = (omega arith, tt)
+line-short r (header v c) = (omega arith, (omega arith, tt))
+line-short r (aLine xs) = (omega arith, (omega arith, (omega arith, tt)))
+line-short r (eLine xs) = (omega arith, (omega arith, tt))
+line-short r (dLine x S) = (omega arith, (omega arith, tt))
+line-short r (clauseLine C) = (omega arith, (omega arith, (omega arith, (omega arith, (omega arith, tt)))))
+line-short r noForm = (omega arith, tt)
+
+counted-short : (r : Reader) (n : ℕ) → suc n < 65536 → (c : Bool) → ShortLoaded (cond c (accepted (r .formula)) (refused n 14))
+unfolding ShortLoaded
+counted-short r n h true = tt
+counted-short r n h false = (omega arith, omega arith)
+
+end-short : (p : Phase) (r : Reader) (n : ℕ) → suc n < 65536 → ShortLoaded (atEnd p r n)
+unfolding atEnd ShortLoaded
+end-short opening r n h = (h, omega arith)
+end-short prefixLines r n h = counted-short r n h (eqb (length (r .formula .clauses)) (r .count))
+end-short clauseLines r n h = counted-short r n h (eqb (length (r .formula .clauses)) (r .count))
+
+unless-short : (o : Option Refusal) (n : ℕ) (go : Unit {0} → Loaded) → ShortRefusal o → Short n → ShortLoaded (go tt) → ShortLoaded (unless o n go)
+unfolding unless ShortRefusal ShortLoaded
+unless-short none n go k h f = f
+unless-short (some r) n go k h f = (h, k)
+
+last-short : (c : Bool) (r : Reader) (n : ℕ) → suc n < 65536 → ShortLoaded (cond c (atEnd (r .phase) r n) (refused (suc n) 10))
+unfolding ShortLoaded
+last-short true r n h = end-short (r .phase) r n h
+last-short false r n h = (h, omega arith)
+
+read-short : (ls : List (List ℕ)) (n : ℕ) (r : Reader) → n + length ls + 1 < 65536 → ShortLoaded (readFrom ls n r)
+unfolding readFrom
+read-short [] n r h = end-short (r .phase) r n (omega arith)
+read-short (l ∷ []) n r h = last-short (isEmpty l) r n (omega arith)
+read-short (l ∷ k ∷ ls) n r h =
+    unless-short (first (lineTests r (formOf l))) (suc n) (λ u. readFrom (k ∷ ls) (suc n) (taken r (formOf l))) (first-short (lineTests r (formOf l)) (line-short r (formOf l))) (omega arith)
+    (read-short (k ∷ ls) (suc n) (taken r (formOf l)) (omega arith))
+
+onto-length : (b : ℕ) (ws : List (List ℕ)) → length (onto b ws) ≤ suc (length ws)
+unfolding onto
+onto-length b [] = omega arith
+onto-length b (w ∷ ws) = omega arith
+
+pieces-few : (s : ℕ) (bytes : List ℕ) → length (pieces s bytes) ≤ suc (length bytes)
+unfolding pieces
+pieces-few s [] = omega arith
+pieces-few s (b ∷ bytes) = go (eqb b s) (pieces-few s bytes)
+  where
+    go : (c : Bool) → length (pieces s bytes) ≤ suc (length bytes) → length (cond c ([] ∷ pieces s bytes) (onto b (pieces s bytes))) ≤ suc (suc (length bytes))
+    go true h = omega arith
+    go false h = omega (arith, onto-length b (pieces s bytes))
+
+pub load-short : (text : List ℕ) → ShortLoaded (load text)
+unfolding load ShortLoaded
+load-short text = go (ltb textLimit (length text)) refl
+  where
+    go : (c : Bool) → ltb textLimit (length text) ≡ c → ShortLoaded (cond c (refused 0 11) (readFrom (pieces lineFeed text) 0 start))
+    go true e = (omega arith, omega arith)
+    go false e = read-short (pieces lineFeed text) 0 start (omega (arith, pieces-few lineFeed text, ltb-false textLimit (length text) e))

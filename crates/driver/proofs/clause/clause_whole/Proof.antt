@@ -1,0 +1,55 @@
+-- `driver::clause::clause_whole` meets its contract.
+use borrow.Author.Needs.{needs}
+use Rattle.driver.specs.Buffers.{buffersOf}
+use Rattle.driver.proofs.Laws.Outcomes.{clause-told}
+use Rattle.driver.proofs.clause.clause_whole.Statement.{statement}
+use Rattle.driver.proofs.clause.clause_whole.Tie as tie
+
+slice-aggregate-read-tables : tie.Need-slice-aggregate-read-tables
+slice-aggregate-read-tables c = search needs
+
+slice-aggregate-read-tables-2 : tie.Need-slice-aggregate-read-tables-2
+slice-aggregate-read-tables-2 c = search needs
+
+slice-aggregate-read-tables-3 : tie.Need-slice-aggregate-read-tables-3
+slice-aggregate-read-tables-3 c = search needs
+
+read-tables-requires : tie.Need-read-tables-requires
+read-tables-requires c κs = search needs
+
+read-state-requires : tie.Need-read-state-requires
+read-state-requires c κs = search needs
+
+slice-aggregate-clause-length : tie.Need-slice-aggregate-clause-length
+slice-aggregate-clause-length c = search needs
+
+slice-aggregate-clause-length-2 : tie.Need-slice-aggregate-clause-length-2
+slice-aggregate-clause-length-2 c = search needs
+
+slice-aggregate-clause-length-3 : tie.Need-slice-aggregate-clause-length-3
+slice-aggregate-clause-length-3 c = search needs
+
+clause-length-requires : tie.Need-clause-length-requires
+clause-length-requires c κs = search needs
+
+of-clause-requires : tie.Need-of-clause-requires
+of-clause-requires c κs = search needs
+
+returns : tie.Need-returns
+returns c = clause-told (buffersOf (c .before .before .before .before .before .before .before .before .before .before .before .before .before .before .before .before .before .before .args .literals .now) (c .before .before .before .before .before .before .before .before .before .before .before .before .before .before .before .before .before .before .args .ends .now) (c .before .before .before .before .before .before .before .before .before .before .before .before .before .before .before .before .before .before .args .sets .now) (c .before .before .before .before .before .before .before .before .before .before .before .before .before .before .before .before .before .before .args .kinds .now) (c .before .before .before .before .before .before .before .before .before .before .before .before .before .before .before .before .before .before .args .state .now)) (c .before .before .before .before .before .before .before .before .before .read-tables .ensures .0) (c .before .before .before .before .before .before .before .before .before .read-tables .ensures .1) (c .before .before .before .before .before .before .before .before .before .read-tables .ensures .2) (c .before .before .before .before .before .read-state .ensures) (c .before .before .before .before .before .before .before .before .before .before .before .before .before .before .before .before .before .before .args .clause) (c .before .clause-length .ensures) (c .of-clause .ensures)
+
+pub clause-whole-spec : {M : Type 1} → statement M
+clause-whole-spec =
+    tie.close
+    (tie.spec
+    slice-aggregate-read-tables
+    slice-aggregate-read-tables-2
+    slice-aggregate-read-tables-3
+    read-tables-requires
+    read-state-requires
+    slice-aggregate-clause-length
+    slice-aggregate-clause-length-2
+    slice-aggregate-clause-length-3
+    clause-length-requires
+    of-clause-requires
+    returns)

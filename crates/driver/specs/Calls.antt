@@ -1,0 +1,74 @@
+-- The exported calls over the driver's buffers: decode, the typed call's own definition, encode (document 01, "The solver's driver is C++").
+-- "too few bytes in any of them is 1, and nothing lent is changed then, except that a load zeroes a state lent whole."
+-- Offers `After`, `loadBytes`, `runBytes`, and the results of the calls that write nothing: `showBytes`, `clauseBytes`, `variableBytes`; `loadWhole` and its like are
+-- those over buffers that are long enough.
+use mathlib.Core.Bool.{cond}
+use mathlib.Core.List.{List}
+use Prim.Native.Nat.{ℕ}
+use lib.ListN.{replicate}
+use Rattle.dqbf.specs.Refusal.{refusal}
+use Rattle.dqbf.specs.Questions.{noClause, noVariable}
+use Rattle.questions.specs.Answers.{lengthAnswer, variableAnswer, shownStart}
+use Rattle.dqdimacs.specs.Loading.{AfterLoad, loadOf}
+use Rattle.dqdimacs.specs.declared.LoadAnswer.the-variants as Load
+use Rattle.steps.specs.Steps.{AfterRun, runOf}
+use Rattle.steps.specs.declared.RunAnswer.the-variants as Run
+use Rattle.codec.specs.Bytes.{over}
+use Rattle.driver.specs.Buffers.{Buffers, buffersOf, stateSize, stateWhole, whole, tablesIn, stateIn, written}
+use Rattle.driver.specs.Results.{loadResult, runResult, clauseResult, showResult, variableResult}
+
+-- the buffers behind a call, and its result
+pub record After : Type 0 where
+  pub buffers : Buffers
+  pub result : ℕ
+
+-- ---- a load
+
+unfoldable pub loaded : Buffers → AfterLoad → After
+loaded b l = record { buffers = written b (l .tables) (l .state); result = loadResult (l .answer) }
+
+unfoldable pub loadShort : Buffers → After
+loadShort b = record {
+  buffers = buffersOf (b .literals) (b .ends) (b .sets) (b .kinds) (cond (stateWhole b) (over (replicate stateSize 0) (b .state)) (b .state));
+  result = loadResult (Load.Refused 0 1);
+}
+
+abbrev pub loadWhole : Buffers → List ℕ → After
+loadWhole b text = loaded b (loadOf (tablesIn b) text)
+
+unfoldable pub loadBytes : Buffers → List ℕ → After
+loadBytes b text = cond (whole b) (loadWhole b text) (loadShort b)
+
+-- ---- a run
+
+unfoldable pub ran : Buffers → AfterRun → After
+ran b r = record { buffers = written b (r .tables) (r .state); result = runResult (r .answer) }
+
+unfoldable pub runShort : Buffers → After
+runShort b = record { buffers = b; result = runResult (Run.Bad (record { 0 = 0 }) 1) }
+
+abbrev pub runWhole : Buffers → List ℕ → After
+runWhole b records = ran b (runOf (tablesIn b) (stateIn b) records)
+
+unfoldable pub runBytes : Buffers → List ℕ → After
+runBytes b records = cond (whole b) (runWhole b records) (runShort b)
+
+-- ---- calls that write nothing
+
+abbrev pub showWhole : Buffers → ℕ → ℕ
+showWhole b c = showResult (shownStart (tablesIn b) (stateIn b) c) (lengthAnswer (tablesIn b) (stateIn b) c)
+
+unfoldable pub showBytes : Buffers → ℕ → ℕ
+showBytes b c = cond (whole b) (showWhole b c) (showResult 0 (noClause (refusal 1)))
+
+abbrev pub clauseWhole : Buffers → ℕ → ℕ
+clauseWhole b c = clauseResult (lengthAnswer (tablesIn b) (stateIn b) c)
+
+unfoldable pub clauseBytes : Buffers → ℕ → ℕ
+clauseBytes b c = cond (whole b) (clauseWhole b c) (clauseResult (noClause (refusal 1)))
+
+abbrev pub variableWhole : Buffers → ℕ → ℕ
+variableWhole b x = variableResult (variableAnswer (tablesIn b) (stateIn b) x)
+
+unfoldable pub variableBytes : Buffers → ℕ → ℕ
+variableBytes b x = cond (whole b) (variableWhole b x) (variableResult (noVariable (refusal 1)))

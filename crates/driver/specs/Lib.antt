@@ -1,0 +1,4 @@
+pub mod Buffers
+pub mod Results
+pub mod Calls
+pub mod Statements

@@ -1,0 +1,32 @@
+-- The fields of a result are the case and the values of the answer, and nothing is cut off: each value fits its 16 bits.
+use mathlib.Core.Path.{_≡_}
+use mathlib.Core.Bool.{true}
+use mathlib.Core.List.{List, [], _∷_}
+use Prim.Native.Nat.{ℕ}
+use Rattle.dqdimacs.specs.Loading.{loadOf}
+use Rattle.dqdimacs.specs.declared.LoadAnswer.{LoadAnswer}
+use Rattle.dqdimacs.specs.declared.LoadAnswer.the-variants as Load
+use Rattle.steps.specs.Steps.{runOf}
+use Rattle.steps.specs.declared.RunAnswer.{RunAnswer}
+use Rattle.steps.specs.declared.RunAnswer.the-variants as Run
+use Rattle.driver.specs.Buffers.{Buffers, whole, tablesIn, stateIn}
+use Rattle.driver.specs.Results.{field}
+use Rattle.driver.specs.Calls.{loadBytes, runBytes}
+
+unfoldable pub fields : ℕ → List ℕ
+fields r = field 0 r ∷ field 1 r ∷ field 2 r ∷ []
+
+unfoldable pub loadFields : LoadAnswer → List ℕ
+loadFields Load.Accepted = 0 ∷ 0 ∷ 0 ∷ []
+loadFields (Load.Refused line number) = 1 ∷ line ∷ number ∷ []
+
+unfoldable pub runFields : RunAnswer → List ℕ
+runFields (Run.Refuted steps clause) = 0 ∷ steps .0 ∷ clause .0 ∷ []
+runFields (Run.Open steps) = 1 ∷ steps .0 ∷ 0 ∷ []
+runFields (Run.Bad step number) = 2 ∷ step .0 ∷ number ∷ []
+
+abbrev pub LoadTells : Type 0
+LoadTells = (b : Buffers) (text : List ℕ) → whole b ≡ true → fields (loadBytes b text .result) ≡ loadFields (loadOf (tablesIn b) text .answer)
+
+abbrev pub RunTells : Type 0
+RunTells = (b : Buffers) (records : List ℕ) → whole b ≡ true → fields (runBytes b records .result) ≡ runFields (runOf (tablesIn b) (stateIn b) records .answer)

@@ -1,0 +1,32 @@
+-- Decoding and encoding undo each other (document 01, "each table is its entries in little-endian bytes").
+use mathlib.Core.Path.{_≡_}
+use mathlib.Core.Bool.{true}
+use mathlib.Core.List.{List}
+use Prim.Native.Nat.{ℕ, _<_}
+use lib.ListN.{getD}
+use Rattle.dqbf.specs.Limits.{tables}
+use Rattle.dqbf.specs.Model.{Model}
+use Rattle.dqbf.specs.Valid.{Valid}
+use Rattle.tables.specs.Spread.{spread, stateOf}
+use Rattle.driver.specs.Buffers.{Buffers, whole, tablesIn, stateIn, written}
+
+abbrev pub Bytes : List ℕ → Type 0
+Bytes l = (i : ℕ) → getD l i 0 < 256
+
+pub record AllBytes (b : Buffers) : Type 0 where
+  pub literals : Bytes (b .literals)
+  pub ends : Bytes (b .ends)
+  pub sets : Bytes (b .sets)
+  pub state : Bytes (b .state)
+
+-- Tables and state that are written back as they were read leave the buffers as they were: a refused call changes nothing.
+abbrev pub SameBytes : Type 0
+SameBytes = (b : Buffers) → whole b ≡ true → AllBytes b → written b (tablesIn b) (stateIn b) ≡ b
+
+-- A valid model that is written is read back, and the buffers stay long enough.
+abbrev pub ReadBack : Type 0
+ReadBack =
+    (b : Buffers) (m : Model) → whole b ≡ true → Valid tables m
+    → (tablesIn (written b (spread m (tablesIn b)) (stateOf m)) ≡ spread m (tablesIn b))
+    × (stateIn (written b (spread m (tablesIn b)) (stateOf m)) ≡ stateOf m)
+    × (whole (written b (spread m (tablesIn b)) (stateOf m)) ≡ true)

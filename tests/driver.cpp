@@ -1,0 +1,156 @@
+// The exported calls over buffers with guard bytes around them, lent whole, short and long.
+#include "../include/kefthrun.h"
+
+#include <cstdio>
+#include <cstdlib>
+#include <string>
+#include <vector>
+
+static int failures = 0;
+
+static void expect(const char *what, bool holds) {
+    if (holds) return;
+    std::printf("FAILED: %s\n", what);
+    failures++;
+}
+
+// Bytes in the middle of a larger block, so that a write outside them is seen.
+class Guarded {
+public:
+    explicit Guarded(size_t length) : length_(length), block_(length + 2 * margin, mark) {
+        for (size_t i = 0; i < length; i++) data()[i] = static_cast<uint8_t>(7 * i + 3);
+    }
+    uint8_t *data() { return block_.data() + margin; }
+    size_t size() const { return length_; }
+    bool guards_stand() const {
+        for (size_t i = 0; i < margin; i++)
+            if (block_[i] != mark || block_[margin + length_ + i] != mark) return false;
+        return true;
+    }
+    std::vector<uint8_t> bytes() { return std::vector<uint8_t>(data(), data() + length_); }
+    // whether the bytes from a place on are those of a new buffer
+    bool fresh_from(size_t place) {
+        Guarded other(length_);
+        for (size_t i = place; i < length_; i++)
+            if (data()[i] != other.data()[i]) return false;
+        return true;
+    }
+
+private:
+    static constexpr size_t margin = 64;
+    static constexpr uint8_t mark = 0xa5;
+    size_t length_;
+    std::vector<uint8_t> block_;
+};
+
+static const size_t sizes[5] = {KEFTHRUN_LITERAL_BYTES, KEFTHRUN_END_BYTES, KEFTHRUN_SET_BYTES, KEFTHRUN_KIND_BYTES, KEFTHRUN_STATE_BYTES};
+
+struct Buffers {
+    std::vector<Guarded> all;
+    explicit Buffers(int which = -1, int more = 0) {
+        for (int i = 0; i < 5; i++) all.emplace_back(sizes[i] + (i == which ? more : 0));
+    }
+    Guarded &operator[](int i) { return all[static_cast<size_t>(i)]; }
+    uint64_t load(const std::string &text) {
+        return kefthrun_load(reinterpret_cast<const uint8_t *>(text.data()), text.size(), all[0].data(), all[0].size(), all[1].data(), all[1].size(),
+                             all[2].data(), all[2].size(), all[3].data(), all[3].size(), all[4].data(), all[4].size());
+    }
+    uint64_t run(const std::vector<uint8_t> &records) {
+        return kefthrun_run(records.data(), records.size(), all[0].data(), all[0].size(), all[1].data(), all[1].size(), all[2].data(), all[2].size(),
+                            all[3].data(), all[3].size(), all[4].data(), all[4].size());
+    }
+    uint64_t ask(uint64_t (*call)(const uint8_t *, size_t, const uint8_t *, size_t, const uint8_t *, size_t, const uint8_t *, size_t, const uint8_t *,
+                                  size_t, uint32_t),
+                 uint32_t number) {
+        return call(all[0].data(), all[0].size(), all[1].data(), all[1].size(), all[2].data(), all[2].size(), all[3].data(), all[3].size(), all[4].data(),
+                    all[4].size(), number);
+    }
+    std::vector<std::vector<uint8_t>> bytes() {
+        std::vector<std::vector<uint8_t>> copied;
+        for (Guarded &g : all) copied.push_back(g.bytes());
+        return copied;
+    }
+    bool guards_stand() {
+        for (Guarded &g : all)
+            if (!g.guards_stand()) return false;
+        return true;
+    }
+};
+
+static const std::string formula = "p cnf 2 2\na 1 0\nd 2 0\n1 2 0\n-1 -2 0\n";
+
+static std::vector<uint8_t> record(uint8_t kind, uint32_t clause, uint32_t second, uint32_t third) {
+    std::vector<uint8_t> bytes = {kind, 0, 0, 0};
+    for (uint32_t word : {clause, second, third})
+        for (int i = 0; i < 4; i++) bytes.push_back(static_cast<uint8_t>(word >> 8 * i));
+    return bytes;
+}
+
+static std::vector<uint8_t> listing() {
+    std::vector<uint8_t> all;
+    for (const std::vector<uint8_t> &r : {record(2, 1, 0, 1), record(2, 2, 0, 0xffffffffu), record(1, 3, 4, 2)}) all.insert(all.end(), r.begin(), r.end());
+    return all;
+}
+
+static uint64_t packed(uint64_t kind, uint64_t a, uint64_t b) { return kind + (a << 16) + (b << 32); }
+
+static void whole() {
+    Buffers b;
+    expect("accepted", b.load(formula) == packed(0, 0, 0));
+    expect("refuted 3 5", b.run(listing()) == packed(0, 3, 5));
+    expect("length of clause 1", b.ask(kefthrun_clause, 1) == packed(0, 2, 0));
+    expect("clause 6 unknown", b.ask(kefthrun_clause, 6) == packed(1, 21, 0));
+    expect("clause 65537 unknown", b.ask(kefthrun_clause, 65537) == packed(1, 21, 0));
+    expect("place of clause 2", b.ask(kefthrun_show, 2) == packed(0, 2, 2));
+    expect("place of the empty clause", b.ask(kefthrun_show, 5) == packed(0, 6, 0));
+    expect("clause 0 unknown", b.ask(kefthrun_show, 0) == packed(1, 21, 0));
+    expect("its literals", kefthrun_literal(b[0].data(), 2) == -1 && kefthrun_literal(b[0].data(), 3) == -2);
+    expect("variable 1", b.ask(kefthrun_variable, 1) == packed(0, 1, 1));
+    expect("variable 2", b.ask(kefthrun_variable, 2) == packed(0, 2, 0));
+    expect("variable 3 not in use", b.ask(kefthrun_variable, 3) == packed(1, 22, 0));
+    const std::vector<std::vector<uint8_t>> before = b.bytes();
+    expect("a refused step names itself", b.run(record(4, 0, 0, 0)) == packed(2, 1, 20));
+    expect("and changes nothing", b.bytes() == before);
+    b[3].data()[0] = 9;
+    const std::vector<std::vector<uint8_t>> broken = b.bytes();
+    expect("ill-formed tables", b.run(listing()) == packed(2, 0, 2) && b.ask(kefthrun_show, 1) == packed(1, 2, 0));
+    expect("stay as they are", b.bytes() == broken);
+    expect("a refused text", b.load("p cnf 1\n") == packed(1, 1, 10));
+    for (int i = 0; i < 5; i++) expect("leaves zeros", b[i].bytes() == std::vector<uint8_t>(sizes[i], 0));
+    expect("guards", b.guards_stand());
+}
+
+// One buffer is a byte short.
+static void brief(int which) {
+    Buffers b(which, -1);
+    const std::vector<std::vector<uint8_t>> before = b.bytes();
+    expect("a short run is 1", b.run(listing()) == packed(2, 0, 1));
+    expect("a short show is 1", b.ask(kefthrun_show, 1) == packed(1, 1, 0));
+    expect("a short question is 1", b.ask(kefthrun_clause, 1) == packed(1, 1, 0) && b.ask(kefthrun_variable, 1) == packed(1, 1, 0));
+    expect("nothing is changed", b.bytes() == before);
+    expect("a short load is 1", b.load(formula) == packed(1, 0, 1));
+    for (int i = 0; i < 4; i++) expect("tables stay", b[i].bytes() == before[static_cast<size_t>(i)]);
+    expect("a whole state is zeroed, a short one stays", which == 4 ? b[4].bytes() == before[4] : b[4].bytes() == std::vector<uint8_t>(16, 0));
+    expect("guards", b.guards_stand());
+}
+
+// One buffer is longer: the bytes past its size stay.
+static void longer(int which) {
+    Buffers b(which, 40);
+    expect("accepted", b.load(formula) == packed(0, 0, 0));
+    expect("refuted 3 5", b.run(listing()) == packed(0, 3, 5));
+    expect("bytes past the size stay", b[which].fresh_from(sizes[which]));
+    expect("a refused text", b.load("p cnf 1\n") == packed(1, 1, 10));
+    expect("bytes past the size stay", b[which].fresh_from(sizes[which]));
+    expect("guards", b.guards_stand());
+}
+
+int main() {
+    whole();
+    for (int i = 0; i < 5; i++) {
+        brief(i);
+        longer(i);
+    }
+    if (failures == 0) std::printf("the exported calls: passed\n");
+    return failures == 0 ? EXIT_SUCCESS : EXIT_FAILURE;
+}
