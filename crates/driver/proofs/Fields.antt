@@ -1,25 +1,37 @@
 -- The claims of specs/Statements/Fields.antt.
 use mathlib.Core.Path.{_≡_, refl}
-use mathlib.Core.Bool.{Bool, true, false}
+use mathlib.Core.Bool.{cond, _||_, Bool, true, false}
 use mathlib.Core.List.{List, [], _∷_}
 use Prim.Native.Nat.{ℕ, _<_}
 use native.Mathlib.Omega.{arith}
+use lib.Dec.{eqb, ltb}
+use lib.ListN.{length}
+use Rattle.dqbf.specs.Set.{size}
+use Rattle.dqbf.specs.Refusal.{refusal}
+use Rattle.dqbf.specs.Rules.{clauseAt, unknown}
+use Rattle.dqbf.specs.Model.{used, kindOf, setOf}
+use Rattle.dqbf.specs.Valid.{Valid}
+use Rattle.dqbf.specs.Questions.{clauseLength, noClause, askClause, variable, noVariable, askVariable}
 use Rattle.dqbf.specs.Limits.{tables}
 use Rattle.dqbf.specs.Reading.{load, accepted, refused}
-use Rattle.dqbf.specs.Reading as Reading
 use Rattle.dqbf.specs.Run.{Verdict, refuted, open′, bad, run}
-use Rattle.tables.specs.Tables.{modelIn}
-use Rattle.tables.specs.WellFormed.{wellFormed}
+use Rattle.dqbf.specs.Reading as Reading
+use Rattle.tables.specs.declared.State.{State}
+use Rattle.tables.specs.Unusable.{unlessRefused}
+use Rattle.tables.specs.Tables.{Tables, modelIn}
+use Rattle.tables.specs.WellFormed.{long, wellFormed}
+use Rattle.tables.proofs.Laws.Unusable.{usable, unusable-ill}
 use Rattle.tables.proofs.Laws.Spread.{valid-held}
+use Rattle.questions.specs.Answers.{lengthAnswer, variableAnswer}
 use Rattle.dqdimacs.specs.Loading.{loadAnswer, loadedOn, loadOf}
 use Rattle.steps.specs.Steps.{runAnswer, ranOn, runRefused, runOf}
 use Rattle.driver.specs.Buffers.{Buffers, whole, tablesIn, stateIn}
-use Rattle.driver.specs.Results.{packed, loadResult, runResult}
-use Rattle.driver.specs.Calls.{loaded, loadBytes, ran, runBytes}
-use Rattle.driver.specs.Statements.Fields.{fields, loadFields, runFields, LoadTells, RunTells}
+use Rattle.driver.specs.Results.{packed, loadResult, runResult, clauseResult, variableResult}
+use Rattle.driver.specs.Calls.{loaded, loadBytes, ran, runBytes, clauseBytes, variableBytes}
+use Rattle.driver.specs.Statements.Fields.{fields, loadFields, runFields, clauseFields, variableFields, LoadTells, RunTells, ClauseTells, VariableTells}
 use Rattle.driver.proofs.Laws.Outcomes.{lent-long}
 use Rattle.driver.proofs.Laws.Results.{case-is, first-is, second-is}
-use Rattle.driver.proofs.Laws.Short.{ShortVerdict, run-short, ShortLoaded, load-short}
+use Rattle.driver.proofs.Laws.Short.{ShortVerdict, run-short, ShortLoaded, load-short, length-short, kind-short, size-short}
 
 fields-are : (k a b : ℕ) → k < 65536 → a < 65536 → b < 65536 → fields (packed k a b) ≡ k ∷ a ∷ b ∷ []
 unfolding fields
@@ -52,3 +64,39 @@ module _ (b : Buffers) (records : List ℕ) (w : whole b ≡ true) where
 pub run-tells : RunTells
 unfolding runBytes ran
 run-tells b records w = rw w (run-fields b records w (wellFormed (tablesIn b) (stateIn b)) refl)
+
+-- ---- questions
+
+module _ (t : Tables) (s : State) (lent : long t ≡ true) (n : ℕ) where
+  asked-clause : Valid tables (modelIn t s) → (c : Bool)
+      → fields (clauseResult (cond c (noClause (refusal 21)) (clauseLength (length (clauseAt (modelIn t s) n)))))
+      ≡ clauseFields (cond c (noClause (refusal 21)) (clauseLength (length (clauseAt (modelIn t s) n))))
+  unfolding clauseResult clauseFields
+  asked-clause v true = fields-are 1 21 0 (omega arith) (omega arith) (omega arith)
+  asked-clause v false = fields-are 0 (length (clauseAt (modelIn t s) n)) 0 (omega arith) (length-short (modelIn t s) v n) (omega arith)
+
+  clause-fields : (c : Bool) → wellFormed t s ≡ c → fields (clauseResult (lengthAnswer t s n)) ≡ clauseFields (lengthAnswer t s n)
+  unfolding lengthAnswer unlessRefused askClause clauseResult clauseFields
+  clause-fields true e = rw (usable t s lent e) (asked-clause (valid-held t s lent e) (unknown (modelIn t s) n))
+  clause-fields false e = rw (unusable-ill t s lent e) (fields-are 1 2 0 (omega arith) (omega arith) (omega arith))
+
+  asked-variable : Valid tables (modelIn t s) → (c : Bool)
+      → fields (variableResult (cond c (noVariable (refusal 22)) (variable (kindOf (modelIn t s) n) (size (setOf (modelIn t s) n)))))
+      ≡ variableFields (cond c (noVariable (refusal 22)) (variable (kindOf (modelIn t s) n) (size (setOf (modelIn t s) n))))
+  unfolding variableResult variableFields
+  asked-variable v true = fields-are 1 22 0 (omega arith) (omega arith) (omega arith)
+  asked-variable v false =
+      fields-are 0 (kindOf (modelIn t s) n) (size (setOf (modelIn t s) n)) (omega arith) (kind-short (modelIn t s) v n) (size-short (modelIn t s) v n)
+
+  variable-fields : (c : Bool) → wellFormed t s ≡ c → fields (variableResult (variableAnswer t s n)) ≡ variableFields (variableAnswer t s n)
+  unfolding variableAnswer unlessRefused askVariable variableResult variableFields
+  variable-fields true e = rw (usable t s lent e) (asked-variable (valid-held t s lent e) (eqb n 0 || ltb (used (modelIn t s)) n))
+  variable-fields false e = rw (unusable-ill t s lent e) (fields-are 1 2 0 (omega arith) (omega arith) (omega arith))
+
+pub clause-tells : ClauseTells
+unfolding clauseBytes
+clause-tells b c w = rw w (clause-fields (tablesIn b) (stateIn b) (lent-long b w) c (wellFormed (tablesIn b) (stateIn b)) refl)
+
+pub variable-tells : VariableTells
+unfolding variableBytes
+variable-tells b x w = rw w (variable-fields (tablesIn b) (stateIn b) (lent-long b w) x (wellFormed (tablesIn b) (stateIn b)) refl)

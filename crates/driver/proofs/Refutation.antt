@@ -11,10 +11,10 @@ use Rattle.dqbf.specs.Formula.{Formula}
 use Rattle.dqbf.specs.Meaning.{Refuted}
 use Rattle.dqbf.specs.Model.{Model, modelOf}
 use Rattle.dqbf.specs.Reading.{load, accepted, refused}
-use Rattle.dqbf.specs.Reading as Reading
 use Rattle.dqbf.specs.Run.{run}
-use Rattle.dqbf.specs.Run as Run
 use Rattle.dqbf.specs.Valid.{Valid}
+use Rattle.dqbf.specs.Reading as Reading
+use Rattle.dqbf.specs.Run as Run
 use Rattle.dqbf.proofs.LoadValid.{load-valid}
 use Rattle.dqbf.proofs.StepsKeepValid.{call-keeps}
 use Rattle.tables.specs.Tables.{modelIn}
@@ -26,8 +26,8 @@ use Rattle.tables.proofs.Laws.Spread.{valid-held, formed-spread}
 use Rattle.dqdimacs.specs.Loading.{loadAnswer, loadedModel, loadedOn, loadOf}
 use Rattle.steps.specs.Steps.{ranOn, runOf}
 use Rattle.steps.specs.declared.RunAnswer.{RunAnswer}
-use Rattle.steps.specs.declared.RunAnswer.the-variants as RunAnswer
 use Rattle.steps.specs.Statements.Refutation.{Lent, answers}
+use Rattle.steps.specs.declared.RunAnswer.the-variants as RunAnswer
 use Rattle.steps.specs.Statements.Refutation as Lending
 use Rattle.steps.proofs.Refutation as Lent-tables
 use Rattle.driver.specs.Buffers.{Buffers, whole, tablesIn, stateIn, written}

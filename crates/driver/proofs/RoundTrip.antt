@@ -9,8 +9,8 @@ use Rattle.dqbf.specs.Limits.{tables, clauseLimit, literalLimit, variableLimit}
 use Rattle.dqbf.specs.Model.{Model, clauses}
 use Rattle.dqbf.specs.Valid.{Valid}
 use Rattle.tables.specs.Spread.{flat, endsFrom, setRow, kindRow, spread, stateOf}
-use Rattle.tables.specs.Spread as Spread
 use Rattle.tables.specs.WellFormed.{long}
+use Rattle.tables.specs.Spread as Spread
 use Rattle.tables.proofs.Laws.Cuts.{flat-length, ends-length}
 use Rattle.tables.proofs.Laws.Valid.{kinds-used, sets-used}
 use Rattle.tables.proofs.Laws.Rows as Rows

@@ -15,10 +15,10 @@ use Rattle.dqbf.specs.Rules.{unknown, clauseAt}
 use Rattle.dqbf.specs.Questions.{ClauseAnswer, clauseLength, noClause, askClause, VariableAnswer}
 use Rattle.tables.specs.Tables.{Tables, tablesOf, entry, modelIn}
 use Rattle.tables.specs.Spread.{spread}
-use Rattle.tables.specs.Spread as Spread
 use Rattle.tables.specs.Unusable.{unusable, unlessRefused}
 use Rattle.tables.specs.WellFormed.{every, long}
 use Rattle.tables.specs.declared.State.{State}
+use Rattle.tables.specs.Spread as Spread
 use Rattle.tables.proofs.Laws.Formed.{long-to}
 use Rattle.tables.proofs.Laws.Tests.{every-at}
 use Rattle.questions.specs.Answers.{lengthAnswer, variableAnswer, shownStart}

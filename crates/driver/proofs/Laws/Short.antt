@@ -1,27 +1,31 @@
 -- Numbers of 16 bits: the numbers of refusal, the lines of a text, the steps and clauses of a run.
 use mathlib.Core.Path.{_≡_, refl}
-use mathlib.Core.Bool.{Bool, true, false, cond}
+use mathlib.Core.Bool.{_&&_, Bool, true, false, cond}
 use mathlib.Core.List.{List, [], _∷_, _++_}
 use mathlib.Core.Option.{Option, none, some}
 use Prim.Native.Nat.{ℕ, zero, suc, _+_, _<_, _≤_}
 use native.Mathlib.Omega.{arith}
 use borrow.Author.Tests.{ltb-false}
 use lib.Dec.{eqb, ltb}
-use lib.ListN.{length, drop}
+use lib.ListN.{getD, replicate, length, drop}
+use Rattle.dqbf.specs.Set.{inside, size, count}
+use Rattle.dqbf.specs.Literal.{Clause, total}
+use Rattle.dqbf.specs.Questions.{members}
 use Rattle.dqbf.specs.Limits.{tables, recordsLimit, textLimit, recordSize}
 use Rattle.dqbf.specs.Refusal.{Refusal, refusal, Test, _when_, first}
-use Rattle.dqbf.specs.Model.{Model, steps, lowestEmpty}
+use Rattle.dqbf.specs.Model.{Model, clauses, used, kindOf, setOf, steps, lowestEmpty}
 use Rattle.dqbf.specs.Valid.{Valid}
 use Rattle.dqbf.specs.Text.{onto, pieces, isEmpty, lineFeed}
 use Rattle.dqbf.specs.Reading.{Form, comment, header, aLine, eLine, dLine, clauseLine, noForm, formOf, Phase, opening, prefixLines, clauseLines, Reader, start, lineTests, taken, Loaded, accepted, refused, atEnd, unless, readFrom, load}
 use Rattle.dqbf.specs.Record.{Record, resolution, reduction, fork, recordOf, stretches}
-use Rattle.dqbf.specs.Rules.{added, resolutionTests, reductionTests, forkTests, ruleTests, noRoom, tests}
+use Rattle.dqbf.specs.Rules.{clauseAt, added, resolutionTests, reductionTests, forkTests, ruleTests, noRoom, tests}
 use Rattle.dqbf.specs.Run.{Examined, accepts, refuses, judged, examine, examineOr20, examineBytes, after, Verdict, refuted, open′, bad, verdictOf, goOn, runFrom, run}
 use Rattle.dqbf.specs.Run as Run
+use Rattle.dqbf.proofs.SetSize.{set-size}
 use Rattle.dqbf.proofs.StepsKeepValid.{call-keeps}
 use Rattle.tables.specs.Spread.{stateOf}
 use Rattle.codec.specs.State.{counts}
-use Rattle.driver.proofs.Laws.Fits.{counts-small}
+use Rattle.driver.proofs.Laws.Fits.{each-append, each-member, counts-small}
 
 abbrev pub Short : ℕ → Type 0
 Short n = n < 65536
@@ -182,3 +186,44 @@ load-short text = go (ltb textLimit (length text)) refl
     go : (c : Bool) → ltb textLimit (length text) ≡ c → ShortLoaded (cond c (refused 0 11) (readFrom (pieces lineFeed text) 0 start))
     go true e = (omega arith, omega arith)
     go false e = read-short (pieces lineFeed text) 0 start (omega (arith, pieces-few lineFeed text, ltb-false textLimit (length text) e))
+
+-- ---- questions
+
+at-total : (Cs : List Clause) (i : ℕ) → length (getD Cs i []) ≤ total Cs
+unfolding total
+at-total [] i = omega arith
+at-total (C ∷ Cs) zero = omega arith
+at-total (C ∷ Cs) (suc i) = let h = at-total Cs i in omega arith
+
+pub length-short : (m : Model) → Valid tables m → (c : ℕ) → Short (length (clauseAt m c))
+unfolding clauseAt
+length-short m v zero = omega arith
+length-short m v (suc i) = omega (arith, at-total (clauses m) i, v .few-literals)
+
+threes : (n i : ℕ) → getD (replicate n 3) i 0 ≤ 3
+threes zero i = omega arith
+threes (suc n) zero = omega arith
+threes (suc n) (suc i) = threes n i
+
+pub kind-short : (m : Model) → Valid tables m → (x : ℕ) → Short (kindOf m x)
+unfolding kindOf
+kind-short m v zero = omega arith
+kind-short m v (suc i) =
+    let low = each-append (λ k. k ≤ 3) 0 (omega arith) (m .kinds) (replicate (length (m .forks)) 3)
+    (each-member (λ k. k ≤ 3) 0 (omega arith) (m .kinds) (λ k q. let h = v .kinds-low k q in omega arith)) (threes (length (m .forks))) i in
+    omega arith
+
+one-most : (c : Bool) → cond c 1 0 ≤ 1
+one-most true = omega arith
+one-most false = omega arith
+
+count-most : (d : ℕ) (P : ℕ → Bool) → count d P ≤ d
+unfolding count
+count-most zero P = omega arith
+count-most (suc d) P = omega (arith, one-most (P 0), count-most d (λ i. P (suc i)))
+
+pub size-short : (m : Model) → Valid tables m → (x : ℕ) → Short (size (setOf m x))
+unfolding members used
+size-short m v x =
+    rw (set-size tables m v x)
+    (omega (arith, count-most (length (m .kinds)) (λ k. eqb (kindOf m (suc k)) 1 && inside (setOf m (suc k)) (setOf m x)), v .few-variables))

@@ -3,6 +3,8 @@ use mathlib.Core.Path.{_≡_}
 use mathlib.Core.Bool.{true}
 use mathlib.Core.List.{List, [], _∷_}
 use Prim.Native.Nat.{ℕ}
+use Rattle.dqbf.specs.Questions.{ClauseAnswer, clauseLength, noClause, VariableAnswer, variable, noVariable}
+use Rattle.questions.specs.Answers.{lengthAnswer, variableAnswer}
 use Rattle.dqdimacs.specs.Loading.{loadOf}
 use Rattle.dqdimacs.specs.declared.LoadAnswer.{LoadAnswer}
 use Rattle.dqdimacs.specs.declared.LoadAnswer.the-variants as Load
@@ -11,7 +13,7 @@ use Rattle.steps.specs.declared.RunAnswer.{RunAnswer}
 use Rattle.steps.specs.declared.RunAnswer.the-variants as Run
 use Rattle.driver.specs.Buffers.{Buffers, whole, tablesIn, stateIn}
 use Rattle.driver.specs.Results.{field}
-use Rattle.driver.specs.Calls.{loadBytes, runBytes}
+use Rattle.driver.specs.Calls.{loadBytes, runBytes, clauseBytes, variableBytes}
 
 unfoldable pub fields : ℕ → List ℕ
 fields r = field 0 r ∷ field 1 r ∷ field 2 r ∷ []
@@ -25,8 +27,23 @@ runFields (Run.Refuted steps clause) = 0 ∷ steps .0 ∷ clause .0 ∷ []
 runFields (Run.Open steps) = 1 ∷ steps .0 ∷ 0 ∷ []
 runFields (Run.Bad step number) = 2 ∷ step .0 ∷ number ∷ []
 
+unfoldable pub clauseFields : ClauseAnswer → List ℕ
+clauseFields (clauseLength n) = 0 ∷ n ∷ 0 ∷ []
+clauseFields (noClause r) = 1 ∷ r .number ∷ 0 ∷ []
+
+unfoldable pub variableFields : VariableAnswer → List ℕ
+variableFields (variable kind universals) = 0 ∷ kind ∷ universals ∷ []
+variableFields (noVariable r) = 1 ∷ r .number ∷ 0 ∷ []
+
 abbrev pub LoadTells : Type 0
 LoadTells = (b : Buffers) (text : List ℕ) → whole b ≡ true → fields (loadBytes b text .result) ≡ loadFields (loadOf (tablesIn b) text .answer)
 
 abbrev pub RunTells : Type 0
 RunTells = (b : Buffers) (records : List ℕ) → whole b ≡ true → fields (runBytes b records .result) ≡ runFields (runOf (tablesIn b) (stateIn b) records .answer)
+
+-- (what the exported show tells is specs/Statements/Shown.antt)
+abbrev pub ClauseTells : Type 0
+ClauseTells = (b : Buffers) (c : ℕ) → whole b ≡ true → fields (clauseBytes b c) ≡ clauseFields (lengthAnswer (tablesIn b) (stateIn b) c)
+
+abbrev pub VariableTells : Type 0
+VariableTells = (b : Buffers) (x : ℕ) → whole b ≡ true → fields (variableBytes b x) ≡ variableFields (variableAnswer (tablesIn b) (stateIn b) x)
