@@ -17,7 +17,7 @@ use Rattle.tables.proofs.Laws.Spread.{model-back, formed-spread, long-spread, b
 use Rattle.dqdimacs.specs.Loading.{AfterLoad, loadAnswer, loadedModel, loadedOn, loadShort, loadOf}
 use Rattle.dqdimacs.specs.Statements.{AcceptedExactly, Holding, LoadFormed, Zeroed, RefusedZeroed}
 use Rattle.dqdimacs.specs.declared.LoadAnswer.the-variants.{Accepted, Refused}
-use Rattle.table_lines.proofs.Laws.Rows.{row-length}
+use Rattle.prefix_lines.proofs.Laws.Rows.{row-length}
 
 module _ (t : Tables) where
   -- loadOf, by whether the tables are long enough and what the text came to

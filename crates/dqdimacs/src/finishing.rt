@@ -1,7 +1,7 @@
 // The end of an accepted text: each existential of an `e` line is given its kind and its set.
 ghost use Prim.Native.Nat.{_≤_};
 ghost use lib.ListN.{length};
-ghost use Rattle.table_lines.specs.Rows.{Finished};
+ghost use Rattle.prefix_lines.specs.Rows.{Finished};
 
 // Kind 4 becomes 2, with the places of all universals as its set.
 pub fn finish(places: u64, bound: usize, sets: &mut [u64], kinds: &mut [u8])

@@ -4,7 +4,7 @@ ghost use Rattle.tables.specs.Tables.{tablesOf};
 ghost use Rattle.tables.specs.Spread.{zeroState};
 ghost use Rattle.dqdimacs.specs.Loading.{AfterLoad, loadOf};
 ghost use Rattle.dqdimacs.specs.declared.LoadAnswer.the-variants.{Refused};
-use table_lines::refusal;
+use prefix_lines::refusal;
 use tables::State;
 use tables::formed;
 use tables::zero;

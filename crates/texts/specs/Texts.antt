@@ -5,7 +5,7 @@ use Prim.Native.Nat.{ℕ}
 use Rattle.dqbf.specs.Reading.{Reader, Loaded, accepted, refused}
 use Rattle.tables.specs.Tables.{Tables}
 use Rattle.tables.specs.declared.State.{State}
-use Rattle.table_lines.specs.Lines.{ReadSoFar, Framed}
+use Rattle.prefix_lines.specs.Lines.{ReadSoFar, Framed}
 use Rattle.texts.specs.declared.reading.TextAnswer.{TextAnswer}
 
 -- V variables in use, and nothing else

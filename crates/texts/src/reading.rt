@@ -9,13 +9,13 @@ ghost use Rattle.dqbf.specs.Reading.{Reader, start, atEnd, readFrom};
 ghost use Rattle.tables.specs.Tables.{Tables, tablesOf};
 ghost use Rattle.tables.specs.Spread.{spread, blank};
 ghost use Rattle.tables.specs.WellFormed.{long};
-ghost use Rattle.table_lines.specs.Lines.{ReadSoFar};
+ghost use Rattle.prefix_lines.specs.Lines.{ReadSoFar};
 ghost use Rattle.texts.specs.Texts.{TextRead};
 use super::lines;
 use forms::text;
-use table_lines::progress;
-use table_lines::progress::Progress;
-use table_lines::refusal;
+use prefix_lines::progress;
+use prefix_lines::progress::Progress;
+use prefix_lines::refusal;
 
 // What a text came to: its number of refusal, 0 where it is accepted, with the line.
 pub struct TextAnswer {

@@ -25,20 +25,20 @@ use Rattle.tables.specs.WellFormed.{long}
 use Rattle.tables.specs.declared.State.{State}
 use Rattle.tables.proofs.Laws.Formed.{long-is, long-to}
 use Rattle.tables.proofs.Laws.Spread.{blank-valid, blank-state, spread-again, long-spread}
-use Rattle.table_lines.specs.Pending.{pending, finalKind}
-use Rattle.table_lines.specs.Rows.{finalSets, Finished}
-use Rattle.table_lines.specs.Lines.{progressOf, ReadSoFar}
+use Rattle.prefix_lines.specs.Pending.{pending, finalKind}
+use Rattle.prefix_lines.specs.Rows.{finalSets, Finished}
+use Rattle.prefix_lines.specs.Lines.{progressOf, ReadSoFar}
 use Rattle.texts.specs.Texts.{TextRead}
 use Rattle.dqdimacs.specs.Loading.{AfterLoad, loadAnswer, loadedModel, loadedOn, loadShort, loadOf}
 use Rattle.dqdimacs.specs.declared.Loaded.{Loaded}
 use Rattle.dqdimacs.specs.declared.LoadAnswer.the-variants.{Accepted, Refused}
-use Rattle.table_lines.specs.declared.progress.Progress.{Progress}
+use Rattle.prefix_lines.specs.declared.progress.Progress.{Progress}
 use Rattle.texts.specs.declared.reading.TextAnswer.{TextAnswer}
-use Rattle.table_lines.proofs.Laws.Rows.{row-length}
-use Rattle.table_lines.proofs.Laws.Models.{pending-kinds, pending-sets}
-use Rattle.table_lines.proofs.Laws.Reading.{model-state, long-now, bound-is, places-is, kinds-over, sets-over, kinds-front, sets-front}
-use Rattle.table_lines.proofs.Laws.Finishing.{final-kinds, final-sets}
-use Rattle.table_lines.proofs.Laws.ClauseLines.{within}
+use Rattle.prefix_lines.proofs.Laws.Rows.{row-length}
+use Rattle.prefix_lines.proofs.Laws.Models.{pending-kinds, pending-sets}
+use Rattle.prefix_lines.proofs.Laws.Reading.{model-state, long-now, bound-is, places-is, kinds-over, sets-over, kinds-front, sets-front}
+use Rattle.prefix_lines.proofs.Laws.Finishing.{final-kinds, final-sets}
+use Rattle.clause_lines.proofs.Laws.ClauseLines.{within}
 
 -- ---- the end of an accepted text
 

@@ -19,7 +19,7 @@ use Rattle.forms.specs.declared.form.Shape.{Shape}
 use Rattle.forms.specs.declared.form.Shape.the-variants.{Comment, Header, Universals, Existentials, Dependent, Malformed}
 use Rattle.forms.specs.declared.form.Shape.the-variants as shape
 use Rattle.forms.proofs.Laws.Shapes.{Front, shape-comment, shape-header, shape-malformed, shape-universals, shape-existentials, shape-dependent, shape-clause}
-use Rattle.table_lines.specs.Lines.{Known}
+use Rattle.prefix_lines.specs.Lines.{Known}
 
 -- ---- the form
 

@@ -24,14 +24,14 @@ use Rattle.dqbf.proofs.Reading.Lines.{Sane, newOn, sane-form}
 use Rattle.tables.specs.Tables.{Tables}
 use Rattle.tables.specs.Spread.{flat, endsFrom, over, spread, stateOf, kindRow, setRow}
 use Rattle.tables.specs.declared.State.{State}
-use Rattle.table_lines.specs.Pending.{kindWhile, setWhile, given, pending}
-use Rattle.table_lines.specs.Lines.{phaseNumber, progressOf, refusalOf, ReadSoFar, LineRead}
+use Rattle.prefix_lines.specs.Pending.{kindWhile, setWhile, given, pending}
+use Rattle.prefix_lines.specs.Lines.{phaseNumber, progressOf, refusalOf, ReadSoFar, LineRead}
 use Rattle.texts.specs.Texts.{emptyState}
-use Rattle.table_lines.specs.declared.progress.Progress.{Progress}
-use Rattle.table_lines.proofs.Laws.Models.{pending-universals}
-use Rattle.table_lines.proofs.Laws.Reading.{countsOf, pending-state, phase-is, phase-opening, phase-late, framed}
-use Rattle.table_lines.proofs.Laws.Declaring.{no-tests}
-use Rattle.table_lines.proofs.Laws.LineTests.{test-fails, test-passes, line-refused, line-taken}
+use Rattle.prefix_lines.specs.declared.progress.Progress.{Progress}
+use Rattle.prefix_lines.proofs.Laws.Models.{pending-universals}
+use Rattle.prefix_lines.proofs.Laws.Reading.{countsOf, pending-state, phase-is, phase-opening, phase-late, framed}
+use Rattle.prefix_lines.proofs.Laws.Declaring.{no-tests}
+use Rattle.prefix_lines.proofs.Laws.LineTests.{test-fails, test-passes, line-refused, line-taken}
 
 -- ---- a row of zeros
 

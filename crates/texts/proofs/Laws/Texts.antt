@@ -27,13 +27,13 @@ use Rattle.tables.specs.Spread.{spread, stateOf, blank}
 use Rattle.tables.specs.WellFormed.{long}
 use Rattle.tables.specs.declared.State.{State}
 use Rattle.tables.proofs.Laws.Spread.{blank-state}
-use Rattle.table_lines.specs.Pending.{pending}
-use Rattle.table_lines.specs.Lines.{phaseNumber, progressOf, refusalOf, ReadSoFar, Known, LineRead}
+use Rattle.prefix_lines.specs.Pending.{pending}
+use Rattle.prefix_lines.specs.Lines.{phaseNumber, progressOf, refusalOf, ReadSoFar, Known, LineRead}
 use Rattle.texts.specs.Texts.{emptyState, TextRead}
-use Rattle.table_lines.specs.declared.progress.Progress.{Progress}
-use Rattle.table_lines.specs.declared.progress.LineAnswer.{LineAnswer}
+use Rattle.prefix_lines.specs.declared.progress.Progress.{Progress}
+use Rattle.prefix_lines.specs.declared.progress.LineAnswer.{LineAnswer}
 use Rattle.texts.specs.declared.reading.TextAnswer.{TextAnswer}
-use Rattle.table_lines.proofs.Laws.Reading.{phase-is, phase-opening, phase-late, count-is, clauses-is, framed}
+use Rattle.prefix_lines.proofs.Laws.Reading.{phase-is, phase-opening, phase-late, count-is, clauses-is, framed}
 
 -- ---- before the first line
 

@@ -3,8 +3,8 @@ use mathlib.Core.Path.{_≡_, refl, ap, sym, _∙_}
 use Prim.Native.Nat.{ℕ, _+_, _-_, _≤_}
 use native.Mathlib.Omega.{arith}
 use lib.ListN.{length, length-set}
-use Rattle.table_lines.specs.Rows.{Finished}
-use Rattle.table_lines.proofs.Laws.Finishing.{finish-start, finish-waiting, finish-other}
+use Rattle.prefix_lines.specs.Rows.{Finished}
+use Rattle.prefix_lines.proofs.Laws.Finishing.{finish-start, finish-waiting, finish-other}
 use Rattle.dqdimacs.proofs.finishing.finish.Statement.{statement}
 use Rattle.dqdimacs.proofs.finishing.finish.Tie as tie
 use Rattle.dqdimacs.proofs.finishing.finish.Reads as reads

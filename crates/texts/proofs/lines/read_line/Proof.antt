@@ -8,10 +8,10 @@ use Rattle.texts.proofs.lines.read_line.Statement.{statement}
 use Rattle.texts.proofs.lines.read_line.Tie as tie
 use Rattle.texts.proofs.lines.read_line.Reads as reads
 use Rattle.texts.proofs.lines.read_line.Lts as lts
-use Rattle.table_lines.proofs.clause.clause_line.Reads as clause-line-reads
-use Rattle.table_lines.proofs.declarations.dependent_line.Reads as dependent-line-reads
-use Rattle.table_lines.proofs.declarations.existential_line.Reads as existential-line-reads
-use Rattle.table_lines.proofs.declarations.universal_line.Reads as universal-line-reads
+use Rattle.clause_lines.proofs.clause.clause_line.Reads as clause-line-reads
+use Rattle.prefix_lines.proofs.declarations.dependent_line.Reads as dependent-line-reads
+use Rattle.prefix_lines.proofs.declarations.existential_line.Reads as existential-line-reads
+use Rattle.prefix_lines.proofs.declarations.universal_line.Reads as universal-line-reads
 use Rattle.texts.proofs.lines.comment_line.Reads as comment-line-reads
 use Rattle.texts.proofs.lines.header_line.Reads as header-line-reads
 use Rattle.forms.proofs.form.form.Reads as form-reads

@@ -7,8 +7,8 @@ use Rattle.dqbf.specs.Text.{lineFeed, pieces}
 use Rattle.dqbf.specs.Reading.{start, readFrom}
 use Rattle.tables.specs.Tables.{tablesOf}
 use Rattle.forms.proofs.Laws.Pieces.{line-at-inside}
-use Rattle.table_lines.proofs.Laws.Reading.{long-now}
-use Rattle.table_lines.proofs.Laws.ClauseLines.{within}
+use Rattle.prefix_lines.proofs.Laws.Reading.{long-now}
+use Rattle.clause_lines.proofs.Laws.ClauseLines.{within}
 use Rattle.texts.proofs.Laws.Texts.{Reached, reached-start, reached-last, reached-refused, reached-next, reached-end}
 use Rattle.texts.proofs.reading.read_lines.Statement.{statement}
 use Rattle.texts.proofs.reading.read_lines.Tie as tie

@@ -1,0 +1,2 @@
+-- Laws of clause lines read into tables
+pub mod ClauseLines

@@ -1,0 +1,193 @@
+-- What the tables and the counts say of the reader that they hold (`ReadSoFar`).
+--     countsOf, pending-state, model-state     the state of a model that is read
+--     bound-is, universals-is, ..              the counts
+--     kinds-front, sets-front, ..              the entries in use
+--     long-now, lent-now, framed               the tables are long enough, and their entries past the stated sizes as they were
+-- Assumes nothing.
+use mathlib.Core.Path.{_≡_, refl, ap, sym, _∙_}
+use mathlib.Core.Bool.{Bool, true, false}
+use mathlib.Core.List.{List, [], _∷_, _++_, map, append-nil}
+use Prim.Native.Nat.{ℕ, zero, suc, _+_, _-_, _≤_, _<_}
+use native.Mathlib.Omega.{arith}
+use lib.IntN.{ℤ, pos}
+use lib.ListN.{length, take, getD, replicate, length-map}
+use Rattle.dqbf.specs.Limits.{clauseLimit, literalLimit, variableLimit, universalLimit}
+use Rattle.dqbf.specs.Literal.{Clause, sorted, total}
+use Rattle.dqbf.specs.Set.{Set}
+use Rattle.dqbf.specs.Formula.{Formula, universals}
+use Rattle.dqbf.specs.Model.{Model, clauses, used, steps, universalCount, emptyFrom, lowestEmpty, modelOf, wordOf}
+use Rattle.dqbf.specs.Reading.{Reader, isOpening, takesPrefix, takesClauses, Phase, opening, prefixLines, clauseLines}
+use Rattle.dqbf.proofs.Reading.Lines.{Sane}
+use Rattle.tables.specs.Tables.{Tables, tablesOf}
+use Rattle.tables.specs.Spread.{flat, endsFrom, over, spread, stateOf, kindRow, setRow, blank}
+use Rattle.tables.specs.WellFormed.{long}
+use Rattle.tables.specs.declared.State.{State}
+use Rattle.tables.proofs.Laws.Cuts.{flat-length, ends-length}
+use Rattle.tables.proofs.Laws.Rows.{over-length, over-take, over-over}
+use Rattle.tables.proofs.Laws.Formed.{Long, long-is, long-to}
+use Rattle.prefix_lines.specs.Pending.{pending}
+use Rattle.prefix_lines.specs.Lines.{phaseNumber, progressOf, ReadSoFar, Framed}
+use Rattle.prefix_lines.specs.declared.progress.Progress.{Progress}
+use Rattle.prefix_lines.proofs.Laws.Models.{pending-kinds, pending-sets, pending-clauses, pending-used, pending-universals}
+use Rattle.prefix_lines.proofs.Laws.Finishing.{final-kinds, final-universals}
+
+-- ---- the state
+
+-- of V variables in use, so many universals, and formula clauses alone
+abbrev pub countsOf : ℕ → ℕ → List Clause → State
+countsOf v n Cs = record {
+  bound = record { 0 = v };
+  variables = record { 0 = v };
+  universals = n;
+  formula = record { 0 = length Cs };
+  clauses = record { 0 = length Cs };
+  literals = total Cs;
+  steps = record { 0 = 0 };
+  empty = record { 0 = emptyFrom 1 Cs };
+}
+
+pub pending-state : (φ : Formula) → stateOf (pending φ) ≡ countsOf (φ .bound) (universalCount (pending φ)) (map sorted (φ .clauses))
+unfolding stateOf lowestEmpty
+pending-state φ =
+    let d : length (pending φ .formula) ≡ length (map sorted (φ .clauses)) = unfold pending in refl in
+    let e : steps (pending φ) ≡ 0 = unfold steps pending in refl in
+    rw (pending-kinds φ, pending-used φ, pending-clauses φ, d, e)
+
+pub model-state : (φ : Formula) → stateOf (modelOf φ) ≡ stateOf (pending φ)
+unfolding stateOf used steps universalCount lowestEmpty clauses
+model-state φ =
+    let k : modelOf φ .kinds ≡ map _ (pending φ .kinds) = sym (final-kinds φ) in
+    rw (k, final-universals (pending φ .kinds), length-map (pending φ .kinds) _) (unfold pending modelOf in refl)
+
+-- ---- the phase, by its number
+
+module _ (r : Reader) {n : ℕ} (e : n ≡ phaseNumber (r .phase)) where
+  pub phase-opening : n ≡ 0 → r .phase ≡ opening
+  unfolding phaseNumber
+  phase-opening z = go (r .phase) (sym e ∙ z)
+    where
+      go : (p : Phase) → phaseNumber p ≡ 0 → p ≡ opening
+      go opening h = refl
+      go prefixLines h = absurd (omega arith)
+      go clauseLines h = absurd (omega arith)
+
+  pub phase-late : (n ≡ 0 → ⊥) → (isOpening (r .phase) ≡ false) × (takesClauses (r .phase) ≡ true)
+  unfolding phaseNumber isOpening takesClauses
+  phase-late z = go (r .phase) (λ h. z (e ∙ h))
+    where
+      go : (p : Phase) → (phaseNumber p ≡ 0 → ⊥) → (isOpening p ≡ false) × (takesClauses p ≡ true)
+      go opening h = absurd (h refl)
+      go prefixLines h = (refl, refl)
+      go clauseLines h = (refl, refl)
+
+  pub phase-prefix : n ≡ 1 → r .phase ≡ prefixLines
+  unfolding phaseNumber
+  phase-prefix z = go (r .phase) (sym e ∙ z)
+    where
+      go : (p : Phase) → phaseNumber p ≡ 1 → p ≡ prefixLines
+      go opening h = absurd (omega arith)
+      go prefixLines h = refl
+      go clauseLines h = absurd (omega arith)
+
+  pub phase-other : (n ≡ 1 → ⊥) → takesPrefix (r .phase) ≡ false
+  unfolding phaseNumber takesPrefix
+  phase-other z = go (r .phase) (λ h. z (e ∙ h))
+    where
+      go : (p : Phase) → (phaseNumber p ≡ 1 → ⊥) → takesPrefix p ≡ false
+      go opening h = refl
+      go prefixLines h = absurd (h refl)
+      go clauseLines h = refl
+
+-- ---- counts and entries
+
+module _ {t : Tables} {r : Reader} {p : Progress} {now : Tables} (h : ReadSoFar t r p now) where
+  abbrev φ : Formula
+  φ = r .formula
+
+  pub phase-is : p .phase ≡ phaseNumber (r .phase)
+  unfolding progressOf
+  phase-is = ap (λ (q : Progress). q .phase) (h .progress)
+
+  pub count-is : p .count ≡ r .count
+  unfolding progressOf
+  count-is = ap (λ (q : Progress). q .count) (h .progress)
+
+  pub places-is : p .places ≡ wordOf (universals φ) (universals φ)
+  unfolding progressOf
+  places-is = ap (λ (q : Progress). q .places) (h .progress)
+
+  pub state-is : p .state ≡ countsOf (φ .bound) (length (universals φ)) (map sorted (φ .clauses))
+  unfolding progressOf
+  state-is =
+      ap (λ (q : Progress). q .state) (h .progress) ∙ pending-state φ
+      ∙ ap (λ n. countsOf (φ .bound) n (map sorted (φ .clauses))) (pending-universals r (h .sane))
+
+  pub bound-is : p .state .bound .0 ≡ φ .bound
+  bound-is = ap (λ (s : State). s .bound .0) state-is
+
+  pub universals-is : p .state .universals ≡ length (universals φ)
+  universals-is = ap (λ (s : State). s .universals) state-is
+
+  pub clauses-is : p .state .clauses .0 ≡ length (φ .clauses)
+  clauses-is = ap (λ (s : State). s .clauses .0) state-is ∙ length-map (φ .clauses) sorted
+
+  pub formula-is : p .state .formula .0 ≡ length (φ .clauses)
+  formula-is = ap (λ (s : State). s .formula .0) state-is ∙ length-map (φ .clauses) sorted
+
+  pub literals-is : p .state .literals ≡ total (map sorted (φ .clauses))
+  literals-is = ap (λ (s : State). s .literals) state-is
+
+  -- ---- rows
+
+  kinds-fit : length (kindRow (pending φ)) ≤ variableLimit
+  unfolding kindRow pending
+  kinds-fit = rw (append-nil (pending φ .kinds)) (omega (arith, pending-kinds φ, h .sane .small))
+
+  sets-fit : length (setRow (pending φ)) ≤ variableLimit
+  unfolding setRow pending
+  sets-fit = rw (append-nil (pending φ .sets)) (omega (arith, pending-sets φ, h .sane .small))
+
+  literals-fit : length (flat (clauses (pending φ))) ≤ literalLimit
+  literals-fit = omega (arith, flat-length (clauses (pending φ)), ap total (pending-clauses φ), h .sane .light)
+
+  ends-fit : length (endsFrom 0 (clauses (pending φ))) ≤ clauseLimit
+  ends-fit = omega (arith, ends-length 0 (clauses (pending φ)), ap (λ (Cs : List Clause). length Cs) (pending-clauses φ), length-map (φ .clauses) sorted, h .few, h .sane .few)
+
+  pub long-now : Long now
+  unfolding spread
+  long-now =
+      let l = long-is t (h .lent) in
+      rw (h .tables) (record {
+        literals = omega (arith, over-length (pos 0) literalLimit (flat (clauses (pending φ))) (t .literals) literals-fit (l .literals));
+        ends = omega (arith, over-length 0 clauseLimit (endsFrom 0 (clauses (pending φ))) (t .ends) ends-fit (l .ends));
+        sets = omega (arith, over-length 0 variableLimit (setRow (pending φ)) (t .sets) sets-fit (l .sets));
+        kinds = omega (arith, over-length 0 variableLimit (kindRow (pending φ)) (t .kinds) kinds-fit (l .kinds));
+      })
+
+  pub lent-now : long now ≡ true
+  lent-now = long-to now long-now
+
+  pub framed : Framed t now
+  unfolding spread
+  framed =
+      rw (h .tables) (λ i. record {
+        literals = over-over (pos 0) literalLimit (flat (clauses blank)) (flat (clauses (pending φ))) (t .literals) literals-fit i;
+        ends = over-over 0 clauseLimit (endsFrom 0 (clauses blank)) (endsFrom 0 (clauses (pending φ))) (t .ends) ends-fit i;
+        sets = over-over 0 variableLimit (setRow blank) (setRow (pending φ)) (t .sets) sets-fit i;
+        kinds = over-over 0 variableLimit (kindRow blank) (kindRow (pending φ)) (t .kinds) kinds-fit i;
+      })
+
+  pub kinds-over : now .kinds ≡ over variableLimit 0 (pending φ .kinds) (t .kinds)
+  unfolding spread kindRow pending
+  kinds-over = ap (λ (x : Tables). x .kinds) (h .tables) ∙ ap (λ (l : List ℕ). over variableLimit 0 l (t .kinds)) (append-nil (pending φ .kinds))
+
+  pub sets-over : now .sets ≡ over variableLimit 0 (pending φ .sets) (t .sets)
+  unfolding spread setRow pending
+  sets-over = ap (λ (x : Tables). x .sets) (h .tables) ∙ ap (λ (l : List Set). over variableLimit 0 l (t .sets)) (append-nil (pending φ .sets))
+
+  -- the entries of the variables 1 to V
+  pub kinds-front : take (p .state .bound .0) (now .kinds) ≡ pending φ .kinds
+  kinds-front = let e : p .state .bound .0 ≡ length (pending φ .kinds) = bound-is ∙ sym (pending-kinds φ) in rw (e, kinds-over) (over-take 0 variableLimit (pending φ .kinds) (t .kinds))
+
+  pub sets-front : take (p .state .bound .0) (now .sets) ≡ pending φ .sets
+  sets-front = let e : p .state .bound .0 ≡ length (pending φ .sets) = bound-is ∙ sym (pending-sets φ) in rw (e, sets-over) (over-take 0 variableLimit (pending φ .sets) (t .sets))

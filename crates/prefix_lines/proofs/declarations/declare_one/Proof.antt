@@ -1,0 +1,109 @@
+use borrow.Author.Needs.{needs}
+use mathlib.Core.Path.{_≡_, ap, sym, _∙_}
+use native.Mathlib.Omega.{arith}
+use Rattle.tables.proofs.Laws.Turns.{one-shifted}
+use Rattle.prefix_lines.proofs.Laws.Declaring.{one-refused, one-universal, one-existential, one-same, one-added}
+use Rattle.prefix_lines.proofs.declarations.declare_one.Statement.{statement}
+use Rattle.prefix_lines.proofs.declarations.declare_one.Tie as tie
+use Rattle.prefix_lines.proofs.declarations.declare_one.Reads as reads
+use Rattle.prefix_lines.proofs.declarations.declare_one.Lts as lts
+use Rattle.prefix_lines.proofs.declarations.declare.Reads as declare-reads
+use Rattle.prefix_lines.proofs.progress.add_universal.Reads as add-universal-reads
+
+-- src/declarations.rt:59:28
+cast-set : tie.Need-cast-set
+cast-set c = search needs
+
+-- src/declarations.rt:59:28
+cast-set-2 : tie.Need-cast-set-2
+cast-set-2 c = search needs
+
+-- src/declarations.rt:59:19
+shl-set : tie.Need-shl-set
+shl-set c = omega (arith, c .before .before .before .before .before .before .pre .3 (c .before .if1 .taken))
+
+-- src/declarations.rt:60:13
+declare-requires : tie.Need-declare-requires
+declare-requires c κs = search needs
+
+-- src/declarations.rt:61:13
+same-length : tie.Need-same-length
+same-length c = c .before .before .before .before .before .declare .kept .1 .1 .1 .1 .0
+
+-- src/declarations.rt:61:13
+same-length-2 : tie.Need-same-length-2
+same-length-2 c = c .before .before .before .before .before .declare .kept .1 .1 .1 .1 .1 .0
+
+-- src/declarations.rt:61:13
+returns : tie.Need-returns
+returns c = (one-same (c .before .before .before .before .before .before .before .before .before .before .before .before .before .before .args .progress) 12, λ t r l e h inside. one-refused h inside (c .before .before .before .before .before .before .before .before .before .before .before .before .before .before .args .variable) (omega arith) (c .before .before .before .before .before .declare .ensures .told) (c .before .before .before .before .before .before .before .before .before .before .before .before .before .before .args .universal) 1 _ (c .if2 .taken) (c .before .before .before .before .before .declare .ensures .sets-are) (c .before .before .before .before .before .declare .ensures .kinds-are))
+
+-- src/declarations.rt:63:13
+add-universal-requires : tie.Need-add-universal-requires
+add-universal-requires c κs = c .before .before .before .before .before .before .before .before .before .before .before .before .before .before .pre .3 (c .before .before .before .before .before .before .before .before .before .if1 .taken)
+
+-- src/declarations.rt:64:9
+same-length-3 : tie.Need-same-length-3
+same-length-3 c = c .before .before .before .before .before .before .declare .kept .1 .1 .1 .1 .0
+
+-- src/declarations.rt:64:9
+same-length-4 : tie.Need-same-length-4
+same-length-4 c = c .before .before .before .before .before .before .declare .kept .1 .1 .1 .1 .1 .0
+
+-- src/declarations.rt:64:9
+returns-2 : tie.Need-returns-2
+returns-2 c =
+    let few = c .before .before .before .before .before .before .before .before .before .before .before .before .before .before .before .pre .3 (c .before .before .before .before .before .before .before .before .before .before .if1 .taken) in
+    let w = one-shifted (c .before .before .before .before .before .before .before .before .before .before .before .before .before .before .before .args .progress .state .universals) few in
+    (one-added (c .before .before .before .before .before .before .before .before .before .before .before .before .before .before .before .args .progress) _ 0 (c .add-universal .ensures), λ t r l e h inside. rw (c .before .before .before .before .before .before .before .before .before .before .if1 .taken) (one-universal h inside (c .before .before .before .before .before .before .before .before .before .before .before .before .before .before .before .args .variable) (omega arith) (c .before .before .before .before .before .before .declare .ensures .told) (c .before .if2 .left) few w (c .before .before .before .before .before .before .declare .ensures .sets-are) (c .before .before .before .before .before .before .declare .ensures .kinds-are) (c .add-universal .ensures)))
+
+-- src/declarations.rt:66:9
+declare-requires-2 : tie.Need-declare-requires-2
+declare-requires-2 c κs = search needs
+
+-- src/declarations.rt:67:9
+same-length-5 : tie.Need-same-length-5
+same-length-5 c = c .before .before .before .before .before .declare2 .kept .1 .1 .1 .1 .0
+
+-- src/declarations.rt:67:9
+same-length-6 : tie.Need-same-length-6
+same-length-6 c = c .before .before .before .before .before .declare2 .kept .1 .1 .1 .1 .1 .0
+
+-- src/declarations.rt:67:9
+returns-3 : tie.Need-returns-3
+returns-3 c = (one-same (c .before .before .before .before .before .before .before .before .before .before .before .before .before .args .progress) 12, λ t r l e h inside. one-refused h inside (c .before .before .before .before .before .before .before .before .before .before .before .before .before .args .variable) (omega arith) (c .before .before .before .before .before .declare2 .ensures .told) (c .before .before .before .before .before .before .before .before .before .before .before .before .before .args .universal) 4 0 (c .if3 .taken) (c .before .before .before .before .before .declare2 .ensures .sets-are) (c .before .before .before .before .before .declare2 .ensures .kinds-are))
+
+-- src/declarations.rt:43:1
+same-length-7 : tie.Need-same-length-7
+same-length-7 c = c .before .before .before .before .before .declare2 .kept .1 .1 .1 .1 .0
+
+-- src/declarations.rt:43:1
+same-length-8 : tie.Need-same-length-8
+same-length-8 c = c .before .before .before .before .before .declare2 .kept .1 .1 .1 .1 .1 .0
+
+-- src/declarations.rt:43:1
+returns-4 : tie.Need-returns-4
+returns-4 c = (one-same (c .before .before .before .before .before .before .before .before .before .before .before .before .before .args .progress) 0, λ t r l e h inside. rw (c .before .before .before .before .before .before .before .before .if1 .left) (one-existential h inside (c .before .before .before .before .before .before .before .before .before .before .before .before .before .args .variable) (omega arith) (c .before .before .before .before .before .declare2 .ensures .told) (c .if3 .left) (c .before .before .before .before .before .declare2 .ensures .sets-are) (c .before .before .before .before .before .declare2 .ensures .kinds-are)))
+
+pub declare-one-spec : {M : Type 1} → statement M
+declare-one-spec =
+    tie.close
+    (tie.spec
+    cast-set
+    cast-set-2
+    shl-set
+    declare-requires
+    same-length
+    same-length-2
+    returns
+    add-universal-requires
+    same-length-3
+    same-length-4
+    returns-2
+    declare-requires-2
+    same-length-5
+    same-length-6
+    returns-3
+    same-length-7
+    same-length-8
+    returns-4)

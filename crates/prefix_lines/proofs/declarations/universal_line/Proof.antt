@@ -1,0 +1,80 @@
+use borrow.Author.Needs.{needs}
+use mathlib.Core.Path.{_≡_, ap, sym, _∙_}
+use native.Mathlib.Omega.{arith}
+use Rattle.prefix_lines.proofs.Laws.PrefixLines.{a-late, a-over, a-repeated, a-read, a-known, count-grows}
+use Rattle.prefix_lines.proofs.declarations.universal_line.Statement.{statement}
+use Rattle.prefix_lines.proofs.declarations.universal_line.Tie as tie
+use Rattle.prefix_lines.proofs.declarations.universal_line.Reads as reads
+use Rattle.prefix_lines.proofs.declarations.universal_line.Lts as lts
+use Rattle.prefix_lines.proofs.declarations.declare_all.Reads as declare-all-reads
+use Rattle.forms.proofs.order.insert_all.Reads as insert-all-reads
+
+-- src/declarations.rt:228:9
+returns : tie.Need-returns
+returns c = λ t r l e h k. (a-late h (c .if1 .taken) _, λ z. absurd (omega arith))
+
+-- src/declarations.rt:231:18
+cast-before : tie.Need-cast-before
+cast-before c = search needs
+
+-- src/declarations.rt:232:9
+insert-all-requires : tie.Need-insert-all-requires
+insert-all-requires c κs = search needs
+
+-- src/declarations.rt:234:9
+same-length : tie.Need-same-length
+same-length c = c .before .before .before .insert-all .kept .1 .1 .0
+
+-- src/declarations.rt:234:9
+returns-2 : tie.Need-returns-2
+returns-2 c = λ t r l e h k. (a-over h (c .before .before .before .before .before .before .before .if1 .left) (c .before .before .before .before .before .before .before .before .before .before .before .before .before .args .variables .now) (c .before .before .before .before .before .before .before .before .before .before .before .before .before .args .known .now) k _ _ (c .before .before .before .insert-all .ensures) (c .if2 .taken), λ z. absurd (omega arith))
+
+-- src/declarations.rt:236:8
+sub-if3 : tie.Need-sub-if3
+sub-if3 c = count-grows (c .before .before .before .before .before .before .before .before .before .before .before .before .before .args .known .now) _ _ _ _ _ (c .before .before .before .before .before .before .before .before .before .before .before .before .before .pre .3) (c .before .before .before .before .before .before .before .before .before .before .before .before .before .pre .4) (c .before .before .before .insert-all .ensures)
+
+-- src/declarations.rt:237:9
+same-length-2 : tie.Need-same-length-2
+same-length-2 c = c .before .before .before .before .insert-all .kept .1 .1 .0
+
+-- src/declarations.rt:237:9
+returns-3 : tie.Need-returns-3
+returns-3 c = λ t r l e h k. (a-repeated h (c .before .before .before .before .before .before .before .before .if1 .left) (c .before .before .before .before .before .before .before .before .before .before .before .before .before .before .args .variables .now) (c .before .before .before .before .before .before .before .before .before .before .before .before .before .before .args .known .now) k _ _ (c .before .before .before .before .insert-all .ensures) (c .before .if2 .left) (c .if3 .taken), λ z. absurd (omega arith))
+
+-- src/declarations.rt:239:5
+declare-all-requires : tie.Need-declare-all-requires
+declare-all-requires c κs = search needs
+
+-- src/declarations.rt:213:1
+same-length-3 : tie.Need-same-length-3
+same-length-3 c = c .before .before .before .before .before .before .before .before .before .before .before .insert-all .kept .1 .1 .0
+
+-- src/declarations.rt:213:1
+same-length-4 : tie.Need-same-length-4
+same-length-4 c = c .before .before .before .before .declare-all .kept .1 .1 .1 .0
+
+-- src/declarations.rt:213:1
+same-length-5 : tie.Need-same-length-5
+same-length-5 c = c .before .before .before .before .declare-all .kept .1 .1 .1 .1 .0
+
+-- src/declarations.rt:213:1
+returns-4 : tie.Need-returns-4
+returns-4 c = λ t r l e h k. (a-read h (c .before .before .before .before .before .before .before .before .before .before .before .before .before .before .before .if1 .left) (c .before .before .before .before .before .before .before .before .before .before .before .before .before .before .before .before .before .before .before .before .before .args .variables .now) (c .before .before .before .before .before .before .before .before .before .before .before .before .before .before .before .before .before .before .before .before .before .args .known .now) k _ _ (c .before .before .before .before .before .before .before .before .before .before .before .insert-all .ensures) (c .before .before .before .before .before .before .before .before .if2 .left) (c .before .before .before .before .before .before .before .if3 .left) (c .before .before .before .before .declare-all .ensures t r l e h), a-known h (c .before .before .before .before .before .before .before .before .before .before .before .before .before .before .before .if1 .left) (c .before .before .before .before .before .before .before .before .before .before .before .before .before .before .before .before .before .before .before .before .before .args .variables .now) (c .before .before .before .before .before .before .before .before .before .before .before .before .before .before .before .before .before .before .before .before .before .args .known .now) k _ _ (c .before .before .before .before .before .before .before .before .before .before .before .insert-all .ensures) (c .before .before .before .before .before .before .before .before .if2 .left) (c .before .before .before .before .before .before .before .if3 .left) (c .before .before .before .before .declare-all .ensures t r l e h))
+
+pub universal-line-spec : {M : Type 1} → statement M
+universal-line-spec =
+    tie.close
+    (tie.spec
+    returns
+    cast-before
+    insert-all-requires
+    same-length
+    returns-2
+    sub-if3
+    same-length-2
+    returns-3
+    declare-all-requires
+    same-length-3
+    same-length-4
+    same-length-5
+    returns-4)

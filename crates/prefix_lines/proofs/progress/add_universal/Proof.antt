@@ -1,0 +1,18 @@
+use borrow.Author.Needs.{needs}
+use Rattle.prefix_lines.specs.Lines.{universalAdded}
+use Rattle.prefix_lines.proofs.progress.add_universal.Statement.{statement}
+use Rattle.prefix_lines.proofs.progress.add_universal.Tie as tie
+use Rattle.prefix_lines.proofs.progress.add_universal.Reads as reads
+use Rattle.prefix_lines.proofs.progress.add_universal.Lts as lts
+
+-- src/progress.rt:45:21
+add-t11 : tie.Need-add-t11
+add-t11 c = search needs
+
+-- src/progress.rt:31:1
+returns : tie.Need-returns
+unfolding universalAdded
+returns c = search needs
+
+pub add-universal-spec : {M : Type 1} → statement M
+add-universal-spec = tie.close (tie.spec add-t11 returns)

@@ -1,0 +1,249 @@
+// The prefix lines: variables declared, one after the other, in the kinds and the sets.
+ghost use mathlib.Core.Path.{_≡_};
+ghost use mathlib.Core.Bool.{true};
+ghost use mathlib.Core.List.{List, [], _∷_};
+ghost use Prim.Native.Nat.{ℕ, _+_, _≤_, _<_};
+ghost use lib.IntN.{ℤ};
+ghost use lib.ListN.{length, getD, drop};
+ghost use Rattle.dqbf.specs.Limits.{universalLimit};
+ghost use Rattle.dqbf.specs.Reading.{Reader, prefixLines, aLine, eLine, dLine, taken};
+ghost use Rattle.tables.specs.Tables.{Tables, tablesOf};
+ghost use Rattle.tables.specs.WellFormed.{allOf};
+ghost use Rattle.prefix_lines.specs.Rows.{Declared, isUniversal, unionOf};
+ghost use Rattle.prefix_lines.specs.Lines.{ReadSoFar, Known, LineRead, DeclaredAll, OneMore};
+use super::progress;
+use super::progress::LineAnswer;
+use super::progress::Progress;
+use super::refusal;
+use forms::order;
+use tables::VariableNumber;
+use tables::entries;
+
+// A variable up to V that has no kind yet is given its kind and its set; whether it is one.
+fn declare(
+    variable: u32,
+    bound: u32,
+    kind: u8,
+    set: u64,
+    sets: &mut [u64],
+    kinds: &mut [u8],
+) -> bool
+    requires { ⌜ (0 < variable) × (bound ≤ length (now sets)) × (bound ≤ length (now kinds)) ⌝ }
+    ensures { λ r. ⌜ Declared bound variable kind set (now (sets .entry)) (now (kinds .entry)) r (now (sets .exit)) (now (kinds .exit)) ⌝ }
+{
+    if variable > bound {
+        return false;
+    }
+    let place = (variable - 1) as usize;
+    if kinds[place] != 0 {
+        return false;
+    }
+    sets[place] = set;
+    kinds[place] = kind;
+    true
+}
+
+// One variable of an `a` line, or of an `e` line.
+fn declare_one(
+    variable: u32,
+    universal: bool,
+    progress: Progress,
+    sets: &mut [u64],
+    kinds: &mut [u8],
+) -> LineAnswer
+    requires { ⌜ (0 < variable) × (progress .state .bound .0 ≤ length (now sets)) × (progress .state .bound .0 ≤ length (now kinds))
+        × (universal ≡ true → progress .state .universals < universalLimit) ⌝ }
+    ensures { λ r. ⌜ OneMore progress r × ((t : Tables) (reader : Reader) (literals : List ℤ) (ends : List ℕ)
+        → ReadSoFar t reader progress (tablesOf literals ends (now (sets .entry)) (now (kinds .entry))) → reader .phase ≡ prefixLines
+        → DeclaredAll universal (variable ∷ []) t reader r (tablesOf literals ends (now (sets .exit)) (now (kinds .exit)))) ⌝ }
+{
+    let state = progress.state;
+    let bound = state.bound;
+    if universal {
+        let set = 1u64 << (state.universals as u32);
+        if !declare(variable, bound.0, 1, set, sets, kinds) {
+            return LineAnswer {
+                progress,
+                refusal: refusal::VARIABLE,
+            };
+        }
+        let next = progress::add_universal(progress, set);
+        return LineAnswer {
+            progress: next,
+            refusal: refusal::NONE,
+        };
+    }
+    if !declare(variable, bound.0, 4, 0, sets, kinds) {
+        return LineAnswer {
+            progress,
+            refusal: refusal::VARIABLE,
+        };
+    }
+    LineAnswer {
+        progress,
+        refusal: refusal::NONE,
+    }
+}
+
+// The variables of an `a` line, or of an `e` line, one after the other.
+fn declare_all(
+    variables: &[u32],
+    universal: bool,
+    start: Progress,
+    sets: &mut [u64],
+    kinds: &mut [u8],
+) -> LineAnswer
+    requires { ⌜ ((i : ℕ) → i < length (now variables) → 0 < getD (now variables) i 0) × (start .state .bound .0 ≤ length (now sets))
+        × (start .state .bound .0 ≤ length (now kinds)) × (universal ≡ true → start .state .universals + length (now variables) ≤ universalLimit) ⌝ }
+    ensures { λ r. ⌜ ((t : Tables) (reader : Reader) (literals : List ℤ) (ends : List ℕ)
+        → ReadSoFar t reader start (tablesOf literals ends (now (sets .entry)) (now (kinds .entry))) → reader .phase ≡ prefixLines
+        → DeclaredAll universal (now (variables .entry)) t reader r (tablesOf literals ends (now (sets .exit)) (now (kinds .exit)))) ⌝ }
+{
+    let mut progress = start;
+    let mut i = 0;
+    while i < variables.len() {
+        let variable = variables[i];
+        i += 1;
+        let next = declare_one(variable, universal, progress, sets, kinds);
+        if next.refusal != 0 {
+            return next;
+        }
+        let after = next.progress;
+        progress = after;
+    }
+    LineAnswer {
+        progress,
+        refusal: refusal::NONE,
+    }
+}
+
+// Whether each of the variables is a universal.
+fn all_universal(variables: &[u32], kinds: &[u8]) -> bool
+    ensures { λ r. ⌜ r ≡ allOf (isUniversal (now (kinds .entry))) (now (variables .entry)) ⌝ }
+{
+    let mut i = 0;
+    while i < variables.len() {
+        let kind = entries::kind_of(kinds, VariableNumber(variables[i]));
+        if kind != 1 {
+            return false;
+        }
+        i += 1;
+    }
+    true
+}
+
+// The union of the sets of the variables.
+fn union_of(variables: &[u32], sets: &[u64]) -> u64
+    ensures { λ r. ⌜ r ≡ unionOf (now (sets .entry)) (now (variables .entry)) ⌝ }
+{
+    let mut union = 0;
+    let mut i = variables.len();
+    while i > 0 {
+        i -= 1;
+        let set = entries::set_of(sets, VariableNumber(variables[i]));
+        union = dqbf::sets::union(set, union);
+    }
+    union
+}
+
+// An `e` line.
+pub fn existential_line(
+    variables: &[u32],
+    progress: Progress,
+    sets: &mut [u64],
+    kinds: &mut [u8],
+) -> LineAnswer
+    requires { ⌜ ((i : ℕ) → i < length (now variables) → 0 < getD (now variables) i 0) × (progress .state .bound .0 ≤ length (now sets))
+        × (progress .state .bound .0 ≤ length (now kinds)) ⌝ }
+    ensures { λ r. ⌜ ((t : Tables) (reader : Reader) (literals : List ℤ) (ends : List ℕ)
+        → ReadSoFar t reader progress (tablesOf literals ends (now (sets .entry)) (now (kinds .entry)))
+        → LineRead t reader (eLine (now (variables .entry))) r (tablesOf literals ends (now (sets .exit)) (now (kinds .exit)))) ⌝ }
+{
+    if progress.phase != progress::PREFIX_LINES {
+        return LineAnswer {
+            progress,
+            refusal: refusal::NO_FORM,
+        };
+    }
+    declare_all(variables, false, progress, sets, kinds)
+}
+
+// A `d` line: one existential, whose set is the union of the sets of its universals.
+pub fn dependent_line(
+    numbers: &[u32],
+    progress: Progress,
+    sets: &mut [u64],
+    kinds: &mut [u8],
+) -> LineAnswer
+    requires { ⌜ (0 < length (now numbers)) × (0 < getD (now numbers) 0 0) × (progress .state .bound .0 ≤ length (now sets))
+        × (progress .state .bound .0 ≤ length (now kinds)) ⌝ }
+    ensures { λ r. ⌜ ((t : Tables) (reader : Reader) (literals : List ℤ) (ends : List ℕ)
+        → ReadSoFar t reader progress (tablesOf literals ends (now (sets .entry)) (now (kinds .entry)))
+        → LineRead t reader (dLine (getD (now (numbers .entry)) 0 0) (drop 1 (now (numbers .entry)))) r (tablesOf literals ends (now (sets .exit)) (now (kinds .exit)))) ⌝ }
+{
+    if progress.phase != progress::PREFIX_LINES {
+        return LineAnswer {
+            progress,
+            refusal: refusal::NO_FORM,
+        };
+    }
+    let state = progress.state;
+    let bound = state.bound;
+    let end = bound.0 as usize;
+    if !all_universal(&numbers[1..], &kinds[..end]) {
+        return LineAnswer {
+            progress,
+            refusal: refusal::VARIABLE,
+        };
+    }
+    let set = union_of(&numbers[1..], &sets[..end]);
+    if !declare(numbers[0], bound.0, 2, set, sets, kinds) {
+        return LineAnswer {
+            progress,
+            refusal: refusal::VARIABLE,
+        };
+    }
+    LineAnswer {
+        progress,
+        refusal: refusal::NONE,
+    }
+}
+
+// An `a` line. `known` has the different numbers on the `a` lines so far, in ascending order.
+pub fn universal_line(
+    variables: &[u32],
+    known: &mut [u32],
+    progress: Progress,
+    sets: &mut [u64],
+    kinds: &mut [u8],
+) -> LineAnswer
+    requires { ⌜ ((i : ℕ) → i < length (now variables) → 0 < getD (now variables) i 0) × (progress .state .bound .0 ≤ length (now sets))
+        × (progress .state .bound .0 ≤ length (now kinds)) × (progress .state .universals ≤ universalLimit) × (universalLimit < length (now known)) ⌝ }
+    ensures { λ r. ⌜ ((t : Tables) (reader : Reader) (literals : List ℤ) (ends : List ℕ)
+        → ReadSoFar t reader progress (tablesOf literals ends (now (sets .entry)) (now (kinds .entry))) → Known reader (now (known .entry))
+        → LineRead t reader (aLine (now (variables .entry))) r (tablesOf literals ends (now (sets .exit)) (now (kinds .exit)))
+        × (r .refusal ≡ 0 → Known (taken reader (aLine (now (variables .entry)))) (now (known .exit)))) ⌝ }
+{
+    if progress.phase != progress::PREFIX_LINES {
+        return LineAnswer {
+            progress,
+            refusal: refusal::NO_FORM,
+        };
+    }
+    let state = progress.state;
+    let before = state.universals as usize;
+    let count = order::insert_all(variables, variables.len(), known, before, 64);
+    if count > 64 {
+        return LineAnswer {
+            progress,
+            refusal: refusal::OVER_LIMIT,
+        };
+    }
+    if count - before != variables.len() {
+        return LineAnswer {
+            progress,
+            refusal: refusal::VARIABLE,
+        };
+    }
+    declare_all(variables, true, progress, sets, kinds)
+}

@@ -1,0 +1,58 @@
+// How far the lines have come, by value.
+ghost use mathlib.Core.Path.{_≡_};
+ghost use Prim.Native.Nat.{_<_};
+ghost use Rattle.dqbf.specs.Limits.{universalLimit};
+ghost use Rattle.prefix_lines.specs.Lines.{universalAdded};
+use tables::State;
+
+pub struct Progress {
+    // 0 before the header, 1 in the prefix lines, 2 in the clause lines
+    pub phase: u8,
+    // the header's C
+    pub count: u32,
+    // the places of the universals so far, as a set
+    pub places: u64,
+    pub state: State,
+}
+
+pub const OPENING: u8 = 0;
+
+pub const PREFIX_LINES: u8 = 1;
+
+pub const CLAUSE_LINES: u8 = 2;
+
+// What a line did; its number of refusal is 0 where it passed.
+pub struct LineAnswer {
+    pub progress: Progress,
+    pub refusal: u32,
+}
+
+// One universal more, with its set.
+pub fn add_universal(progress: Progress, set: u64) -> Progress
+    requires { ⌜ progress .state .universals < universalLimit ⌝ }
+    ensures { λ r. ⌜ r ≡ universalAdded progress set ⌝ }
+{
+    let state = progress.state;
+    let bound = state.bound;
+    let variables = state.variables;
+    let formula = state.formula;
+    let clauses = state.clauses;
+    let steps = state.steps;
+    let empty = state.empty;
+    let next = State {
+        bound,
+        variables,
+        universals: state.universals + 1,
+        formula,
+        clauses,
+        literals: state.literals,
+        steps,
+        empty,
+    };
+    Progress {
+        phase: progress.phase,
+        count: progress.count,
+        places: progress.places | set,
+        state: next,
+    }
+}
