@@ -3,6 +3,7 @@
 
 mod stack;
 mod time;
+mod typed;
 mod work;
 
 use std::process::ExitCode;
@@ -11,6 +12,7 @@ use std::time::Duration;
 use archive::Archive;
 use differential::library::Lean;
 
+use typed::Typed;
 use work::{List, Work};
 
 const ROUNDS: usize = 301;
@@ -73,6 +75,30 @@ fn growths() -> bool {
     linear.iter().all(|&each| each)
 }
 
+fn against_typed(name: &str, typed: Typed, work: &Work) {
+    let times = time::driver(typed, work, ROUNDS);
+    let [driver, typed, pass] = [times.driver, times.typed, times.pass].map(micros);
+    println!(
+        "| {name} | {driver:.1} | {typed:.1} | {pass:.1} | {:.2} |",
+        (driver - pass) / typed
+    );
+}
+
+fn typed_calls() {
+    println!("\n| call | driver, µs | typed, µs | one pass over the buffers, µs | (driver - pass) / typed |");
+    println!("|---|---|---|---|---|");
+    for work in work::loads() {
+        against_typed(work.name, Typed::Load, &work);
+    }
+    let lists = work::lists();
+    for list in &lists {
+        against_typed(list.name, Typed::Run, &list.run(list.most));
+    }
+    let [record, _] = lists[0].single();
+    against_typed(record.name, Typed::Run, &record);
+    against_typed("the same record, a typed step", Typed::Step, &record);
+}
+
 fn stacks() {
     println!("\n| call | library, bytes of stack | lean, bytes of stack |");
     println!("|---|---|---|");
@@ -102,6 +128,7 @@ fn main() -> ExitCode {
     comparisons();
     let linear = growths();
     stacks();
+    typed_calls();
     if linear {
         ExitCode::SUCCESS
     } else {
