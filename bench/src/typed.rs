@@ -1,4 +1,4 @@
-//! The typed calls (crate `typed_calls`), and one pass over the driver's buffers.
+//! The typed calls (crates `typed_calls`, `typed_step`), and one pass over the driver's buffers.
 
 use std::hint::black_box;
 

@@ -1,5 +1,5 @@
 -- What each call leaves.
-use mathlib.Core.Path.{_≡_, ap, _∙_}
+use mathlib.Core.Path.{_≡_, ap}
 use mathlib.Core.List.{List}
 use Prim.Native.Nat.{ℕ, _<_, _≤_}
 use lib.ListN.{length}
@@ -8,13 +8,12 @@ use Rattle.tables.specs.Tables.{Tables}
 use Rattle.tables.specs.declared.State.{State}
 use Rattle.dqdimacs.specs.Loading.{AfterLoad, loadOf}
 use Rattle.dqdimacs.specs.declared.Loaded.{Loaded}
-use Rattle.additions.specs.declared.Stepped.{Stepped}
-use Rattle.steps.specs.Steps.{AfterStep, AfterRun, stepOf, runOf}
+use Rattle.steps.specs.Steps.{AfterRun, runOf}
 use Rattle.steps.specs.declared.Ran.{Ran}
 use Rattle.codec.specs.Bytes.{over}
 use Rattle.codec.specs.State.{stateIn, stateBytes}
 use Rattle.driver.specs.Results.{packed, loadResult, runResult}
-use Rattle.typed_calls.specs.Calls.{After, stepResult, refused, loaded, typedLoad, ran, typedRun, stepped, typedStep}
+use Rattle.typed_calls.specs.Calls.{After, refused, loaded, typedLoad, ran, typedRun}
 
 -- a state of too few bytes
 module _ (t : Tables) (s input : List ℕ) (h : length s < 16) {n : ℕ} where
@@ -25,10 +24,6 @@ module _ (t : Tables) (s input : List ℕ) (h : length s < 16) {n : ℕ} where
   pub run-short : n ≡ packed 2 0 1 → _≡_ {A = After} (record { tables = t; state = s; result = n }) (typedRun t s input)
   unfolding typedRun refused runResult
   run-short e = rw (lt-leb 16 (length s) h, e)
-
-  pub step-short : n ≡ packed 1 1 0 → _≡_ {A = After} (record { tables = t; state = s; result = n }) (typedStep t s input)
-  unfolding typedStep refused stepResult
-  step-short e = rw (lt-leb 16 (length s) h, e)
 
 -- the typed call, with its state written
 module _ (t : Tables) (s input : List ℕ) (h : 16 ≤ length s) (u : Tables) {w : List ℕ} {n : ℕ} where
@@ -42,8 +37,3 @@ module _ (t : Tables) (s input : List ℕ) (h : 16 ≤ length s) (u : Tables) {w
         → w ≡ over (stateBytes (r .state)) s → n ≡ runResult (r .answer) → _≡_ {A = After} (record { tables = u; state = w; result = n }) (typedRun t s input)
     unfolding typedRun ran
     run-told r told e g = rw (le-leb 16 (length s) h, e, g) (ap (ran s) (rw b at told))
-
-    pub step-told : (r : Stepped) → _≡_ {A = AfterStep} (record { tables = u; state = r .state; answer = r .answer }) (stepOf t before input)
-        → w ≡ over (stateBytes (r .state)) s → n ≡ stepResult (r .answer) → _≡_ {A = After} (record { tables = u; state = w; result = n }) (typedStep t s input)
-    unfolding typedStep stepped
-    step-told r told e g = rw (le-leb 16 (length s) h, e, g) (ap (stepped s) (rw b at told))

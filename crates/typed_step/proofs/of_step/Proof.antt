@@ -1,9 +1,9 @@
 use borrow.Author.Needs.{needs}
-use Rattle.typed_calls.specs.Calls.{stepResult}
-use Rattle.typed_calls.proofs.step.of_step.Statement.{statement}
-use Rattle.typed_calls.proofs.step.of_step.Tie as tie
-use Rattle.typed_calls.proofs.step.of_step.Reads as reads
-use Rattle.typed_calls.proofs.step.of_step.Lts as lts
+use Rattle.typed_step.specs.Calls.{stepResult}
+use Rattle.typed_step.proofs.of_step.Statement.{statement}
+use Rattle.typed_step.proofs.of_step.Tie as tie
+use Rattle.typed_step.proofs.of_step.Reads as reads
+use Rattle.typed_step.proofs.of_step.Lts as lts
 use Rattle.driver.proofs.result.pack.Reads as pack-reads
 
 -- src/step.rt:14:33

@@ -1,15 +1,15 @@
 use borrow.Author.Needs.{needs}
 use Rattle.tables.specs.Tables.{tablesOf}
-use Rattle.typed_calls.proofs.Laws.{step-short, step-told}
-use Rattle.typed_calls.proofs.step.typed_step.Statement.{statement}
-use Rattle.typed_calls.proofs.step.typed_step.Tie as tie
-use Rattle.typed_calls.proofs.step.typed_step.Reads as reads
-use Rattle.typed_calls.proofs.step.typed_step.Lts as lts
+use Rattle.typed_step.proofs.Laws.{step-short, step-told}
+use Rattle.typed_step.proofs.typed_step.Statement.{statement}
+use Rattle.typed_step.proofs.typed_step.Tie as tie
+use Rattle.typed_step.proofs.typed_step.Reads as reads
+use Rattle.typed_step.proofs.typed_step.Lts as lts
 use Rattle.codec.proofs.state.read_state.Reads as read-state-reads
 use Rattle.codec.proofs.state.write_state.Reads as write-state-reads
 use Rattle.driver.proofs.result.pack.Reads as pack-reads
 use Rattle.steps.proofs.step.step.Reads as step-reads
-use Rattle.typed_calls.proofs.step.of_step.Reads as of-step-reads
+use Rattle.typed_step.proofs.of_step.Reads as of-step-reads
 
 -- src/step.rt:38:9
 pack-requires : tie.Need-pack-requires

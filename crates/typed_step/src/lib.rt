@@ -1,7 +1,9 @@
-// The typed step.
+// The typed step behind plain arguments, for the benchmark alone.
+// It has an archive of its own: beside the typed run, code that the driver's run has inlined would be shared by two calls, and the run slower by it.
 ghost use mathlib.Core.Path.{_≡_};
 ghost use Rattle.tables.specs.Tables.{tablesOf};
-ghost use Rattle.typed_calls.specs.Calls.{After, stepResult, typedStep};
+ghost use Rattle.typed_calls.specs.Calls.{After};
+ghost use Rattle.typed_step.specs.Calls.{stepResult, typedStep};
 use additions::StepAnswer;
 use codec::state as state_codec;
 use driver::result;
