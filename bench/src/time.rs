@@ -103,9 +103,12 @@ fn pass(work: &Work) -> Duration {
 /// buffers; a step has an answer of its own.
 pub fn driver(typed: Typed, work: &Work, rounds: usize) -> DriverTimes {
     let mut times = [Vec::new(), Vec::new(), Vec::new()];
-    for _ in 0..rounds {
+    for round in 0..rounds {
+        // Each is the first in every other round.
+        let early = (round % 2 == 1).then(|| call_typed(typed, work));
         let (driver_time, word, buffers) = call(&mut Archive, work);
-        let (typed_time, typed_word, typed_buffers) = call_typed(typed, work);
+        let (typed_time, typed_word, typed_buffers) =
+            early.unwrap_or_else(|| call_typed(typed, work));
         let same_word = word == typed_word || typed == Typed::Step;
         assert!(same_word && buffers == typed_buffers, "{}", work.name);
         for (time, each) in times.iter_mut().zip([driver_time, typed_time, pass(work)]) {
