@@ -1,4 +1,5 @@
-//! Times of one work on the three checkers, in the same rounds.
+//! Times of one work on the three checkers, or by the driver's call and the typed
+//! call, in the same rounds.
 
 use std::time::{Duration, Instant};
 
@@ -7,6 +8,7 @@ use checker::driver::Buffers;
 use differential::library::{self, Lean, Library};
 use differential::oracle;
 
+use crate::typed::{self, Lent, Typed};
 use crate::work::Work;
 
 /// Medians: the archive, the fast checker, the reference checker.
@@ -73,5 +75,50 @@ pub fn all(work: &Work, rounds: usize) -> Times {
         archive,
         lean,
         reference,
+    }
+}
+
+/// Medians: the driver's call, the typed call, one pass over the buffers.
+pub struct DriverTimes {
+    pub driver: Duration,
+    pub typed: Duration,
+    pub pass: Duration,
+}
+
+fn call_typed(typed: Typed, work: &Work) -> Outcome {
+    let mut lent = Lent::of(&work.start);
+    let start = Instant::now();
+    let word = lent.call(typed, work.input());
+    (start.elapsed(), word, lent.buffers())
+}
+
+fn pass(work: &Work) -> Duration {
+    let mut buffers = work.start.clone();
+    let start = Instant::now();
+    typed::pass(&mut buffers);
+    start.elapsed()
+}
+
+/// The medians of a driver's call and of a typed call, which must leave the same
+/// buffers; a step has an answer of its own.
+pub fn driver(typed: Typed, work: &Work, rounds: usize) -> DriverTimes {
+    let mut times = [Vec::new(), Vec::new(), Vec::new()];
+    for round in 0..rounds {
+        // Each is the first in every other round.
+        let early = (round % 2 == 1).then(|| call_typed(typed, work));
+        let (driver_time, word, buffers) = call(&mut Archive, work);
+        let (typed_time, typed_word, typed_buffers) =
+            early.unwrap_or_else(|| call_typed(typed, work));
+        let same_word = word == typed_word || typed == Typed::Step;
+        assert!(same_word && buffers == typed_buffers, "{}", work.name);
+        for (time, each) in times.iter_mut().zip([driver_time, typed_time, pass(work)]) {
+            time.push(each);
+        }
+    }
+    let [driver, typed, pass] = times.map(median);
+    DriverTimes {
+        driver,
+        typed,
+        pass,
     }
 }

@@ -13,6 +13,16 @@ pub struct Work {
     pub size: usize,
 }
 
+impl Work {
+    /// The text or the records; none for a question.
+    pub fn input(&self) -> &[u8] {
+        match &self.call {
+            Call::Load(input) | Call::Run(input) => input,
+            _ => &[],
+        }
+    }
+}
+
 /// A formula and a list of equal records on it, as many as there is room for.
 pub struct List {
     pub name: &'static str,

@@ -1,0 +1,116 @@
+//! The typed calls (crates `typed_calls`, `typed_step`), and one pass over the driver's buffers.
+
+use std::hint::black_box;
+
+use checker::driver::Buffers;
+use checker::limits;
+use checker::tables::Tables;
+
+macro_rules! declare {
+    ($($call:ident)*) => {
+        extern "C" {
+            $(fn $call(
+                input: *const u8,
+                input_length: usize,
+                literals: *mut i16,
+                literals_length: usize,
+                ends: *mut u16,
+                ends_length: usize,
+                sets: *mut u64,
+                sets_length: usize,
+                kinds: *mut u8,
+                kinds_length: usize,
+                state: *mut u8,
+                state_length: usize,
+            ) -> u64;)*
+        }
+    };
+}
+
+declare!(typed_load typed_run typed_step);
+
+#[derive(Clone, Copy, PartialEq, Eq)]
+pub enum Typed {
+    Load,
+    Run,
+    Step,
+}
+
+/// What a typed call is lent: the tables, and the state in its bytes.
+pub struct Lent {
+    tables: Tables,
+    state: Vec<u8>,
+}
+
+impl Lent {
+    pub fn of(buffers: &Buffers) -> Lent {
+        let [literals, ends, sets, kinds, state] = &buffers.0;
+        Lent {
+            tables: Tables::of_bytes([literals, ends, sets, kinds]),
+            state: state.clone(),
+        }
+    }
+
+    pub fn buffers(&self) -> Buffers {
+        let [literals, ends, sets, kinds] = self.tables.bytes();
+        Buffers([literals, ends, sets, kinds, self.state.clone()])
+    }
+
+    pub fn call(&mut self, typed: Typed, input: &[u8]) -> u64 {
+        let call = match typed {
+            Typed::Load => typed_load,
+            Typed::Run => typed_run,
+            Typed::Step => typed_step,
+        };
+        let tables = &mut self.tables;
+        // Safe: every pointer is a slice's, with its length, and no two overlap.
+        unsafe {
+            call(
+                input.as_ptr(),
+                input.len(),
+                tables.literals.as_mut_ptr(),
+                tables.literals.len(),
+                tables.ends.as_mut_ptr(),
+                tables.ends.len(),
+                tables.sets.as_mut_ptr(),
+                tables.sets.len(),
+                tables.kinds.as_mut_ptr(),
+                tables.kinds.len(),
+                self.state.as_mut_ptr(),
+                self.state.len(),
+            )
+        }
+    }
+}
+
+fn read<T, const N: usize>(entries: &mut [T], bytes: &[u8], of: fn([u8; N]) -> T) {
+    for (entry, chunk) in entries.iter_mut().zip(bytes.chunks_exact(N)) {
+        *entry = of(chunk.try_into().expect("chunks have N bytes"));
+    }
+}
+
+fn write<T: Copy, const N: usize>(bytes: &mut [u8], entries: &[T], of: fn(T) -> [u8; N]) {
+    for (chunk, entry) in bytes.chunks_exact_mut(N).zip(entries) {
+        chunk.copy_from_slice(&of(*entry));
+    }
+}
+
+/// One pass over the buffers: their entries into tables, and back.
+pub fn pass(buffers: &mut Buffers) {
+    let mut literal_table = [0i16; limits::LITERALS];
+    let mut end_table = [0u16; limits::CLAUSES];
+    let mut set_table = [0u64; limits::VARIABLES];
+    let mut kind_table = [0u8; limits::VARIABLES];
+    let mut counts = [0u16; 8];
+    let [literals, ends, sets, kinds, state] = &mut buffers.0;
+    read(&mut literal_table, literals, i16::from_le_bytes);
+    read(&mut end_table, ends, u16::from_le_bytes);
+    read(&mut set_table, sets, u64::from_le_bytes);
+    read(&mut kind_table, kinds, u8::from_le_bytes);
+    read(&mut counts, state, u16::from_le_bytes);
+    write(literals, black_box(&literal_table), i16::to_le_bytes);
+    write(ends, black_box(&end_table), u16::to_le_bytes);
+    write(sets, black_box(&set_table), u64::to_le_bytes);
+    write(kinds, black_box(&kind_table), u8::to_le_bytes);
+    write(state, black_box(&counts), u16::to_le_bytes);
+}

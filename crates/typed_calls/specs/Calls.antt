@@ -1,0 +1,37 @@
+-- The typed load and run with their state in bytes and their answer in a number. A state of too few bytes is 1, and nothing changes then.
+-- Offers `After`, `refused`, `typedLoad`, `typedRun`.
+use mathlib.Core.Bool.{cond}
+use mathlib.Core.List.{List}
+use Prim.Native.Nat.{ℕ}
+use lib.Dec.{leb}
+use lib.ListN.{length}
+use Rattle.tables.specs.Tables.{Tables}
+use Rattle.dqdimacs.specs.Loading.{AfterLoad, loadOf}
+use Rattle.dqdimacs.specs.declared.LoadAnswer.the-variants as Load
+use Rattle.steps.specs.Steps.{AfterRun, runOf}
+use Rattle.steps.specs.declared.RunAnswer.the-variants as Run
+use Rattle.codec.specs.Bytes.{over}
+use Rattle.codec.specs.State.{stateIn, stateBytes}
+use Rattle.driver.specs.Buffers.{stateSize}
+use Rattle.driver.specs.Results.{loadResult, runResult}
+
+-- the tables, the state and the result behind a call
+pub record After : Type 0 where
+  pub tables : Tables
+  pub state : List ℕ
+  pub result : ℕ
+
+unfoldable pub refused : Tables → List ℕ → ℕ → After
+refused t s number = record { tables = t; state = s; result = number }
+
+unfoldable pub loaded : List ℕ → AfterLoad → After
+loaded s l = record { tables = l .tables; state = over (stateBytes (l .state)) s; result = loadResult (l .answer) }
+
+unfoldable pub typedLoad : Tables → List ℕ → List ℕ → After
+typedLoad t s text = cond (leb stateSize (length s)) (loaded s (loadOf t text)) (refused t s (loadResult (Load.Refused 0 1)))
+
+unfoldable pub ran : List ℕ → AfterRun → After
+ran s r = record { tables = r .tables; state = over (stateBytes (r .state)) s; result = runResult (r .answer) }
+
+unfoldable pub typedRun : Tables → List ℕ → List ℕ → After
+typedRun t s records = cond (leb stateSize (length s)) (ran s (runOf t (stateIn s) records)) (refused t s (runResult (Run.Bad (record { 0 = 0 }) 1)))

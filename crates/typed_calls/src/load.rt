@@ -1,0 +1,34 @@
+// The typed load.
+ghost use mathlib.Core.Path.{_≡_};
+ghost use Rattle.tables.specs.Tables.{tablesOf};
+ghost use Rattle.typed_calls.specs.Calls.{After, typedLoad};
+use codec::state as state_codec;
+use driver::result;
+
+// Loads the text of a formula.
+#[no_mangle]
+pub extern "C" fn typed_load(
+    text: &[u8],
+    literals: &mut [i16],
+    ends: &mut [u16],
+    sets: &mut [u64],
+    kinds: &mut [u8],
+    state: &mut [u8],
+) -> u64
+    ensures { λ r. ⌜ _≡_ {A = After}
+        (record {
+          tables = tablesOf (now (literals .exit)) (now (ends .exit)) (now (sets .exit)) (now (kinds .exit));
+          state = now (state .exit);
+          result = r;
+        })
+        (typedLoad (tablesOf (now (literals .entry)) (now (ends .entry)) (now (sets .entry)) (now (kinds .entry))) (now (state .entry)) (now (text .entry))) ⌝ }
+{
+    if state.len() < 16 {
+        return result::pack(1, 0, 1);
+    }
+    let loaded = dqdimacs::load(text, literals, ends, sets, kinds);
+    let after = loaded.state;
+    state_codec::write_state(state, after);
+    let answer = loaded.answer;
+    result::of_load(answer)
+}
