@@ -4,6 +4,6 @@
 set -eu
 cd "$(dirname "$0")/.."
 program=${KEFTHRUN_PROGRAM:-$PWD/target/bin/kefthrun}
-for example in examples/*; do
-    (cd "$example" && "$program") | cmp - "$example/expected"
+for example in examples/*/; do
+    (cd "$example" && "$program") | cmp - "${example}expected"
 done
