@@ -1,23 +1,24 @@
 -- The operations on one clause (dqbf's specs/Literal.antt), a literal at a time: `holds`, `without`, `pick`, `covers`, `clashes`.
 -- Of each: what it is where a loop has nothing before it, D ≡ [], and by its literal in front, D ≡ k ∷ R.
-use mathlib.Core.Path.{_≡_, refl, ap, _∙_}
+use mathlib.Core.Path.{_≡_, refl, ap, sym, _∙_}
 use mathlib.Core.Logic.{_⊎_, inl, inr, _≢_}
-use mathlib.Core.Bool.{true, false, _||_}
+use mathlib.Core.Bool.{Bool, true, false, _||_}
 use mathlib.Core.List.{[], _∷_}
 use Prim.Native.Nat.{ℕ, _+_, _/_, _%_, _≤_, _<_, _^_}
 use native.Mathlib.Omega.{arith}
-use borrow.Author.Tests.{eq-eqb, ne-eqb, eqb-false}
+use borrow.Author.Tests.{eq-eqb, ne-eqb, eqb-true, eqb-false}
 use lib.Dec.{eqb}
 use lib.IntN.{ℤ, pos, natAbs}
 use lib.ListN.{length, drop, getD}
 use lib.Signed.{mag}
 use mir.Syntax.{w16}
-use mir.Val.{toZ, ofZ}
+use mir.Val.{SFits, toZ, ofZ}
 use Rattle.dqbf.specs.Literal.{Clause, holds, without, pick, covers, clashes}
 use Rattle.dqbf.proofs.Laws.Literals.{same-same, same-not}
 use Rattle.dqbf.proofs.Laws.Signed.{var-kept}
 use Rattle.dqbf.proofs.Laws.Tests.{either, or-left, or-right}
 use Rattle.clauses.proofs.Laws.Places.{list-front}
+use Rattle.clauses.proofs.Laws.Literals.{bits-same, bits-differ}
 
 module _ (l : ℤ) where
   -- ---- holds
@@ -35,6 +36,10 @@ module _ (l : ℤ) where
     unfolding holds
     holds-passed n = rw (e, same-not k l n)
 
+  pub holds-all : {D : Clause} → D ≡ [] → (found : Bool) → (found || holds l D) ≡ found
+  holds-all e true = refl
+  holds-all e false = holds-end e
+
   -- ---- without
 
   pub without-end : {D : Clause} → D ≡ [] → without l D ≡ []
@@ -49,6 +54,16 @@ module _ (l : ℤ) where
     pub without-dropped : k ≡ l → without l D ≡ without l R
     unfolding without
     without-dropped q = rw (e, q, same-same l)
+
+-- a loop that has `found` so far, and compares the bits of the next literal
+pub holds-next : (l : ℤ) → SFits w16 l → {D R : Clause} {k : ℤ} → D ≡ k ∷ R → mag k < 2 ^ 15 → (found : Bool)
+    → (found || holds (toZ w16 (ofZ w16 l)) D) ≡ ((found || eqb (ofZ w16 k) (ofZ w16 l)) || holds (toZ w16 (ofZ w16 l)) R)
+holds-next l fits {D} {R} {k} e f found = go found (eqb (ofZ w16 k) (ofZ w16 l)) refl
+  where
+    go : (b c : Bool) → eqb (ofZ w16 k) (ofZ w16 l) ≡ c → (b || holds (toZ w16 (ofZ w16 l)) D) ≡ ((b || c) || holds (toZ w16 (ofZ w16 l)) R)
+    go true c q = refl
+    go false true q = holds-found (toZ w16 (ofZ w16 l)) e (bits-same f (eqb-true (ofZ w16 k) (ofZ w16 l) q))
+    go false false q = holds-passed (toZ w16 (ofZ w16 l)) e (bits-differ fits (eqb-false (ofZ w16 k) (ofZ w16 l) q))
 
 -- ---- pick
 
@@ -123,3 +138,16 @@ module _ (C : Clause) (i : ℕ) where
     unfolding clashes
     clashes-passed n =
         rw (fronts, ne-eqb (natAbs l) (natAbs k) (λ e. n (omega (arith, var-kept l fl, var-kept k fk))), list-front C (i + 1) (pos 0) h)
+
+    -- a loop that has `found` so far
+    pub clashes-next : {a b : ℕ} → a ≡ variable l → b ≡ variable k → (found : Bool) → (found || clashes (drop i C)) ≡ ((found || eqb a b) || clashes (drop (i + 1) C))
+    clashes-next {a} {b} p q found = go found (eqb a b) refl
+      where
+        go : (d c : Bool) → eqb a b ≡ c → (d || clashes (drop i C)) ≡ ((d || c) || clashes (drop (i + 1) C))
+        go true c r = refl
+        go false true r = clashes-found (sym p ∙ eqb-true a b r ∙ q)
+        go false false r = clashes-passed (λ e. eqb-false a b r (p ∙ e ∙ sym q))
+
+pub clashes-all : (D : Clause) → length D ≤ 1 → (found : Bool) → (found || clashes D) ≡ found
+clashes-all D h true = refl
+clashes-all D h false = clashes-short D h

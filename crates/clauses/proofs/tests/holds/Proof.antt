@@ -1,5 +1,6 @@
--- `tests::holds`: a literal stands in the clause if it is among those that the loop has yet to pass.
-use mathlib.Core.Path.{_≡_, sym, _∙_}
+-- `tests::holds`: what is found, or among the literals that the loop has yet to pass.
+use mathlib.Core.Path.{_≡_, refl, sym, _∙_}
+use mathlib.Core.Bool.{_||_}
 use Prim.Native.Nat.{_≤_, _-_}
 use native.Mathlib.Omega.{arith}
 use borrow.Author.Needs.{needs}
@@ -10,54 +11,45 @@ use mir.Val.{toZ}
 use mir.Facts.{toZ-ofZ}
 use Rattle.dqbf.specs.Literal.{holds}
 use Rattle.clauses.proofs.Laws.Places.{list-front, list-end}
-use Rattle.clauses.proofs.Laws.Literals.{bits-same, bits-differ}
-use Rattle.clauses.proofs.Laws.Clauses.{holds-found, holds-passed, holds-end}
+use Rattle.clauses.proofs.Laws.Clauses.{holds-next, holds-all}
 use Rattle.clauses.proofs.tests.holds.Statement.{statement}
 use Rattle.clauses.proofs.tests.holds.Tie as tie
 use Rattle.clauses.proofs.tests.holds.Reads as reads
 use Rattle.clauses.proofs.tests.holds.Lts as lts
 
 abbrev Inv-loop : tie.InvT-loop
-Inv-loop clause literal n i₀ i = (i ≤ length clause) × (holds (toZ w16 literal) clause ≡ holds (toZ w16 literal) (drop i clause))
+Inv-loop clause literal n i₀ found₀ i found = (i ≤ length clause) × (holds (toZ w16 literal) clause ≡ (found || holds (toZ w16 literal) (drop i clause)))
 
 abbrev μ-loop : tie.MeasureT-loop
-μ-loop clause literal n i₀ i = length clause - i
+μ-loop clause literal n i₀ found₀ i found = length clause - i
 
--- src/tests.rt:12:5
+-- src/tests.rt:13:5
 loop-holds : tie.Need-loop-holds Inv-loop μ-loop
-loop-holds c = search needs
+loop-holds c = (search needs, refl)
 
--- src/tests.rt:13:17
+-- src/tests.rt:14:17
 mul-l : tie.Need-mul-l Inv-loop μ-loop
 mul-l c = search needs
 
--- src/tests.rt:13:17
+-- src/tests.rt:14:17
 shared-slice-copy-out-l : tie.Need-shared-slice-copy-out-l Inv-loop μ-loop
 shared-slice-copy-out-l c = search needs
 
--- src/tests.rt:15:13
-returns : tie.Need-returns Inv-loop μ-loop
-returns c =
-    let front = list-front (c .before .before .before .before .args .clause .now) (c .before .before .before .loop .i) (pos 0) (omega arith) in
-    rw (toZ-ofZ (c .before .before .before .before .fits .literal)) at (sym (c .before .before .before .loop .inv .1 ∙ holds-found _ front (bits-same (c .before .l .given) (c .if1 .taken))))
-
--- src/tests.rt:17:9
+-- src/tests.rt:16:9
 add-i : tie.Need-add-i Inv-loop μ-loop
 add-i c = search needs
 
--- src/tests.rt:12:5
+-- src/tests.rt:13:5
 loop-less : tie.Need-loop-less Inv-loop μ-loop
 loop-less c = search needs
 
--- src/tests.rt:12:5
+-- src/tests.rt:13:5
 loop-again : tie.Need-loop-again Inv-loop μ-loop
-loop-again c =
-    let front = list-front (c .before .before .before .before .args .clause .now) (c .before .before .before .loop .i) (pos 0) (omega arith) in
-    (search needs, c .before .before .before .loop .inv .1 ∙ holds-passed _ front (bits-differ (c .before .before .before .before .fits .literal) (c .if1 .left)))
+loop-again c = (search needs, c .before .before .loop .inv .1 ∙ holds-next _ (c .before .before .before .fits .literal) (list-front (c .before .before .before .args .clause .now) (c .before .before .loop .i) (pos 0) (omega arith)) (c .l .given) (c .before .before .loop .found))
 
 -- src/tests.rt:7:1
-returns-2 : tie.Need-returns-2 Inv-loop μ-loop
-returns-2 c = rw (toZ-ofZ (c .before .before .fits .literal)) at (sym (c .before .loop .inv .1 ∙ holds-end _ (list-end (c .before .before .args .clause .now) (c .before .loop .i) (omega arith))))
+returns : tie.Need-returns Inv-loop μ-loop
+returns c = rw (toZ-ofZ (c .before .before .fits .literal)) at (sym (c .before .loop .inv .1 ∙ holds-all _ (list-end (c .before .before .args .clause .now) (c .before .loop .i) (omega arith)) (c .before .loop .found)))
 
 pub holds-spec : {M : Type 1} → statement M
 holds-spec =
@@ -68,8 +60,7 @@ holds-spec =
     loop-holds
     mul-l
     shared-slice-copy-out-l
-    returns
     add-i
     loop-less
     loop-again
-    returns-2)
+    returns)
