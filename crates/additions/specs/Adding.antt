@@ -1,5 +1,5 @@
--- What the last tests of a step leave: width and clash of a joined clause, and room (document 01, "Numbers of refusal": 24, 23, 25).
--- Offers `Holding` (the tables are long enough and well formed), `One`, `Two`, `fitted`, `joined`, `After` (what a step leaves).
+-- What the last tests of a step leave: width and clash of a resolvent, and room (document 01, "Numbers of refusal": 24, 23, 25).
+-- Offers `Holding` (the tables are long enough and well formed), `One`, `Two`, `fitted`, `tested`, `After` (what a step leaves).
 use mathlib.Core.Path.{_≡_}
 use mathlib.Core.Bool.{cond, true}
 use mathlib.Core.List.{[], _∷_}
@@ -7,7 +7,7 @@ use lib.Dec.{ltb}
 use lib.ListN.{length}
 use Rattle.dqbf.specs.Limits.{tables, widthLimit}
 use Rattle.dqbf.specs.Refusal.{refusal}
-use Rattle.dqbf.specs.Literal.{Clause, join, clashes}
+use Rattle.dqbf.specs.Literal.{Clause, clashes}
 use Rattle.dqbf.specs.Set.{Set}
 use Rattle.dqbf.specs.Model.{Model}
 use Rattle.dqbf.specs.Rules.{Addition, noRoom}
@@ -37,7 +37,6 @@ Two C D w = record { clauses = C ∷ D ∷ []; forks = w ∷ [] }
 unfoldable pub fitted : Model → Addition → Examined
 fitted m a = cond (noRoom tables m a) (refuses (refusal 25)) (accepts a)
 
--- 24 and 23 of the whole join, then 25
-unfoldable pub joined : Model → Clause → Clause → Examined
-joined m C D =
-    cond (ltb widthLimit (length (join C D))) (refuses (refusal 24)) (cond (clashes (join C D)) (refuses (refusal 23)) (fitted m (One (join C D))))
+-- 24 and 23 of a resolvent, then 25
+unfoldable pub tested : Model → Clause → Examined
+tested m C = cond (ltb widthLimit (length C)) (refuses (refusal 24)) (cond (clashes C) (refuses (refusal 23)) (fitted m (One C)))

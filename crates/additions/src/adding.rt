@@ -2,20 +2,19 @@
 use crate::StepAnswer;
 use crate::Stepped;
 use crate::refusal;
-use clauses::join;
-use clauses::parts;
 use clauses::tests;
+use clauses::writing;
 use tables::State;
 use tables::adding;
+use tables::limits::WIDTH_LIMIT;
 ghost use mathlib.Core.Path.{_≡_};
 ghost use Rattle.tables.specs.Tables.{tablesOf, modelIn};
 ghost use mathlib.Core.List.{[], _∷_, _++_};
 ghost use lib.IntN.{pos, negsuc};
 ghost use Prim.Native.Nat.{suc, _≤_};
 ghost use lib.ListN.{length};
-ghost use Rattle.dqbf.specs.Literal.{pick};
 ghost use Rattle.dqbf.specs.Limits.{widthLimit};
-ghost use Rattle.additions.specs.Adding.{Holding, After, One, Two, fitted, joined};
+ghost use Rattle.additions.specs.Adding.{Holding, After, One, Two, fitted, tested};
 ghost use Rattle.additions.specs.declared.StepAnswer.the-variants.{Refused};
 
 // Nothing changes.
@@ -45,7 +44,7 @@ pub fn add_one(
         return refused(state, refusal::NO_ROOM);
     }
     let place = state.literals as usize;
-    let count = parts::write_clause(&mut literals[place..], clause);
+    let count = writing::write_clause(&mut literals[place..], clause);
     let next = adding::add_clause(ends, state, count as u16);
     let answer = StepAnswer::Accepted;
     Stepped {
@@ -54,37 +53,33 @@ pub fn add_one(
     }
 }
 
-// The join of two clauses as a new clause.
-pub fn add_join(
-    x: &[i16],
-    y: &[i16],
+// A resolvent as a new clause: its width, complementary literals, and room.
+pub fn add_resolvent(
+    clause: &[i16],
     literals: &mut [i16],
     ends: &mut [u16],
     sets: &[u64],
     kinds: &[u8],
     state: State,
 ) -> Stepped
-    requires { ⌜ Holding (tablesOf (now literals) (now ends) (now sets) (now kinds)) state × (length (now x) ≤ widthLimit) × (length (now y) ≤ widthLimit) ⌝ }
+    requires { ⌜ Holding (tablesOf (now literals) (now ends) (now sets) (now kinds)) state ⌝ }
     ensures { λ r. ⌜ After (tablesOf (now (literals .entry)) (now (ends .entry)) (now (sets .entry)) (now (kinds .entry))) state
-        (joined (modelIn (tablesOf (now (literals .entry)) (now (ends .entry)) (now (sets .entry)) (now (kinds .entry))) state) (now (x .entry)) (now (y .entry)))
+        (tested (modelIn (tablesOf (now (literals .entry)) (now (ends .entry)) (now (sets .entry)) (now (kinds .entry))) state) (now (clause .entry)))
         (tablesOf (now (literals .exit)) (now (ends .exit)) (now (sets .entry)) (now (kinds .entry))) r ⌝ }
 {
-    let mut whole = [0i16; 64];
-    let width = join::write_join(&mut whole, x, y);
-    if width > 32 {
+    if clause.len() > WIDTH_LIMIT {
         return refused(state, refusal::TOO_WIDE);
     }
-    if tests::clashes(&whole[..width]) {
+    if tests::clashes(clause) {
         return refused(state, refusal::COMPLEMENTARY);
     }
-    add_one(&whole[..width], literals, ends, sets, kinds, state)
+    add_one(clause, literals, ends, sets, kinds, state)
 }
 
 // The two parts of a fork as new clauses, with the new variable, whose set is given.
 pub fn add_parts(
-    x: &[i16],
-    left: u32,
-    right: u32,
+    left: &[i16],
+    right: &[i16],
     set: u64,
     literals: &mut [i16],
     ends: &mut [u16],
@@ -92,21 +87,21 @@ pub fn add_parts(
     kinds: &mut [u8],
     state: State,
 ) -> Stepped
-    requires { ⌜ Holding (tablesOf (now literals) (now ends) (now sets) (now kinds)) state × (length (now x) ≤ widthLimit) ⌝ }
+    requires { ⌜ Holding (tablesOf (now literals) (now ends) (now sets) (now kinds)) state × (length (now left) ≤ widthLimit) × (length (now right) ≤ widthLimit) ⌝ }
     ensures { λ r. ⌜ After (tablesOf (now (literals .entry)) (now (ends .entry)) (now (sets .entry)) (now (kinds .entry))) state
         (fitted (modelIn (tablesOf (now (literals .entry)) (now (ends .entry)) (now (sets .entry)) (now (kinds .entry))) state)
-        (Two (pick left (now (x .entry)) ++ (pos (suc (state .variables .0)) ∷ [])) (pick right (now (x .entry)) ++ (negsuc (state .variables .0) ∷ [])) set))
+        (Two (now (left .entry) ++ (pos (suc (state .variables .0)) ∷ [])) (now (right .entry) ++ (negsuc (state .variables .0) ∷ [])) set))
         (tablesOf (now (literals .exit)) (now (ends .exit)) (now (sets .exit)) (now (kinds .exit))) r ⌝ }
 {
-    let first = parts::part_length(x, left) + 1;
-    let second = parts::part_length(x, right) + 1;
+    let first = left.len() + 1;
+    let second = right.len() + 1;
     if adding::is_full(state, 2, (first + second) as u32, 1) {
         return refused(state, refusal::NO_ROOM);
     }
     let variables = state.variables;
     let variable = (variables.0 + 1) as i16;
     let place = state.literals as usize;
-    parts::write_fork(&mut literals[place..], x, left, right, variable);
+    writing::write_fork(&mut literals[place..], left, right, variable);
     let next = adding::add_fork(ends, sets, kinds, state, first as u16, second as u16, set);
     let answer = StepAnswer::Accepted;
     Stepped {

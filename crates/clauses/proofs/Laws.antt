@@ -1,6 +1,6 @@
 pub mod Clauses
 pub mod Places
-pub mod Join
+pub mod Merging
 pub mod Literals
 pub mod Narrowing
 pub mod Sets

@@ -1,3 +1,3 @@
-pub mod Join
+pub mod Merging
 pub mod Sets
 pub mod Writing

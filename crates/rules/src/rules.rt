@@ -3,7 +3,8 @@ use crate::clause;
 use additions::Stepped;
 use additions::adding;
 use additions::refusal;
-use clauses::parts;
+use clauses::held;
+use clauses::resolvent;
 use clauses::sets as dependencies;
 use clauses::tests;
 use dqbf::literal;
@@ -12,6 +13,7 @@ use tables::ClauseNumber;
 use tables::State;
 use tables::VariableNumber;
 use tables::entries;
+use tables::limits::WIDTH_LIMIT;
 ghost use Rattle.dqbf.specs.Limits as Limits;
 ghost use Rattle.dqbf.specs.Record as Record;
 ghost use Rattle.dqbf.specs.Run.{examine};
@@ -51,11 +53,9 @@ pub fn resolve(
     if !tests::holds(y, negative) {
         return adding::refused(state, refusal::NOT_IN_CLAUSE);
     }
-    let mut left = [0i16; 32];
-    let n = parts::write_without(&mut left, x, positive);
-    let mut right = [0i16; 32];
-    let m = parts::write_without(&mut right, y, negative);
-    adding::add_join(&left[..n], &right[..m], literals, ends, sets, kinds, state)
+    let mut whole = [0i16; 2 * WIDTH_LIMIT];
+    let width = resolvent::hold_resolvent(&mut whole, x, positive, y, negative);
+    adding::add_resolvent(&whole[..width], literals, ends, sets, kinds, state)
 }
 
 // Universal reduction: 21, 22, 26, 27, 25.
@@ -87,11 +87,13 @@ pub fn reduce(
         return adding::refused(state, refusal::NOT_UNIVERSAL);
     }
     let set = entries::set_of(sets, variable);
-    let mut rest = [0i16; 32];
-    let n = parts::write_without(&mut rest, x, reduced);
+    let mut rest = [0i16; WIDTH_LIMIT];
+    let n = held::hold_without(&mut rest, x, reduced);
     let variables = state.variables;
     let used = variables.0 as usize;
-    if dependencies::reads(&rest[..n], set, &sets[..used]) {
+    // a universal's set is one place: another literal's set has it if the union of them has
+    let read = dependencies::clause_set(&rest[..n], &sets[..used]);
+    if words::inside(set, read) {
         return adding::refused(state, refusal::READ_BY_ANOTHER);
     }
     adding::add_one(&rest[..n], literals, ends, sets, kinds, state)
@@ -118,26 +120,27 @@ pub fn fork(
         return adding::refused(state, refusal::UNKNOWN_CLAUSE);
     }
     let x = clause::clause_at(literals, ends, number);
-    if !parts::covers(x, left, right) {
+    if !tests::covers(x, left, right) {
         return adding::refused(state, refusal::MASKS);
     }
+    let mut first = [0i16; WIDTH_LIMIT];
+    let n = held::hold_part(&mut first, x, left);
+    let mut second = [0i16; WIDTH_LIMIT];
+    let m = held::hold_part(&mut second, x, right);
     let variables = state.variables;
     let used = variables.0 as usize;
-    let first = dependencies::part_set(x, left, &sets[..used]);
-    let second = dependencies::part_set(x, right, &sets[..used]);
-    if words::inside(first, second) {
+    let s = dependencies::clause_set(&first[..n], &sets[..used]);
+    let t = dependencies::clause_set(&second[..m], &sets[..used]);
+    if words::inside(s, t) {
         return adding::refused(state, refusal::COMPARABLE);
     }
-    if words::inside(second, first) {
+    if words::inside(t, s) {
         return adding::refused(state, refusal::COMPARABLE);
     }
-    let set = words::common(first, second);
-    let mut source = [0i16; 32];
-    let n = parts::write_clause(&mut source, x);
+    let set = words::common(s, t);
     adding::add_parts(
-        &source[..n],
-        left,
-        right,
+        &first[..n],
+        &second[..m],
         set,
         literals,
         ends,

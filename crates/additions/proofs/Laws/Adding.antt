@@ -1,4 +1,4 @@
--- What a step leaves of tables that hold a model (specs/Adding.antt): one law for a refusal, one for each addition, one for each outcome of `fitted` and `joined`.
+-- What a step leaves of tables that hold a model (specs/Adding.antt): one law for a refusal, one for each addition, one for each outcome of `fitted` and `tested`.
 use mathlib.Core.Path.{_≡_, refl, sym, _∙_, ap}
 use mathlib.Core.Bool.{Bool, true, false, cond}
 use mathlib.Core.List.{List, [], _∷_, _++_}
@@ -17,7 +17,7 @@ use borrow.Rule.Slice.PartMut.{putMid}
 use Rattle.tables.proofs.Laws.Rows.{stored-stored, stored-tail}
 use Rattle.dqbf.specs.Limits.{tables, widthLimit, clauseLimit, literalLimit, variableLimit}
 use Rattle.dqbf.specs.Refusal.{Refusal, refusal}
-use Rattle.dqbf.specs.Literal.{Clause, join, clashes, total, pick}
+use Rattle.dqbf.specs.Literal.{Clause, clashes, total}
 use Rattle.dqbf.specs.Set.{Set}
 use Rattle.dqbf.specs.Model.{Model}
 use Rattle.dqbf.specs.Rules.{Addition, noRoom}
@@ -32,7 +32,7 @@ use Rattle.tables.proofs.Laws.Spread.{model-held, state-held}
 use Rattle.tables.proofs.Laws.Adding.{one-clause, two-clauses, room-told, room-one, room-two, step-room}
 use Rattle.tables.proofs.Laws.Formed.{long-is}
 use Rattle.additions.specs.Examined.{AfterStep, stepAnswer, examined}
-use Rattle.additions.specs.Adding.{Holding, After, One, Two, fitted, joined}
+use Rattle.additions.specs.Adding.{Holding, After, One, Two, fitted, tested}
 use Rattle.additions.specs.declared.Stepped.{Stepped}
 use Rattle.additions.specs.declared.StepAnswer.the-variants.{Accepted, Refused}
 
@@ -81,19 +81,19 @@ pub fitted-accepted : (m : Model) (a : Addition) → noRoom tables m a ≡ false
 unfolding fitted
 fitted-accepted m a h = rw h
 
-module _ (m : Model) (C D : Clause) where
-  pub joined-24 : widthLimit < length (join C D) → joined m C D ≡ refuses (refusal 24)
-  unfolding joined
-  joined-24 h = rw (lt-ltb widthLimit (length (join C D)) h)
+module _ (m : Model) (C : Clause) where
+  pub tested-24 : widthLimit < length C → tested m C ≡ refuses (refusal 24)
+  unfolding tested
+  tested-24 h = rw (lt-ltb widthLimit (length C) h)
 
-  module _ (narrow : length (join C D) ≤ widthLimit) where
-    pub joined-23 : clashes (join C D) ≡ true → joined m C D ≡ refuses (refusal 23)
-    unfolding joined
-    joined-23 h = rw (le-ltb widthLimit (length (join C D)) narrow, h)
+  module _ (narrow : length C ≤ widthLimit) where
+    pub tested-23 : clashes C ≡ true → tested m C ≡ refuses (refusal 23)
+    unfolding tested
+    tested-23 h = rw (le-ltb widthLimit (length C) narrow, h)
 
-    pub joined-fitted : clashes (join C D) ≡ false → joined m C D ≡ fitted m (One (join C D))
-    unfolding joined
-    joined-fitted h = rw (le-ltb widthLimit (length (join C D)) narrow, h)
+    pub tested-fitted : clashes C ≡ false → tested m C ≡ fitted m (One C)
+    unfolding tested
+    tested-fitted h = rw (le-ltb widthLimit (length C) narrow, h)
 
 -- ---- what the functions of src/adding.rt leave
 
@@ -136,22 +136,18 @@ module _ (t : Tables) (s : State) (h : Holding t s) where
       one-added {z = z} q p o u v =
           rw (is, fitted-accepted (modelIn t s) (One C) (no-room ∙ free), o, tail-stored (t .literals) C z (s .literals) p, u, v, q) (left-one t s h C fits)
 
-  -- ---- the join
+  -- ---- a resolvent
 
-  module _ (C D : Clause) {w : ℕ} (width : w ≡ length (join C D)) where
-    pub join-wide : {r : Stepped} → widthLimit < w → r ≡ record { state = s; answer = Refused 24 } → After t s (joined (modelIn t s) C D) t r
-    join-wide h p = after-refused (joined (modelIn t s) C D) (refusal 24) (joined-24 (modelIn t s) C D (rw width at h)) p
+  module _ (C : Clause) where
+    pub resolvent-wide : {r : Stepped} → widthLimit < length C → r ≡ record { state = s; answer = Refused 24 } → After t s (tested (modelIn t s) C) t r
+    resolvent-wide h p = after-refused (tested (modelIn t s) C) (refusal 24) (tested-24 (modelIn t s) C h) p
 
-    module _ (narrow : w ≤ widthLimit) {J : Clause} (whole : J ≡ join C D) {b : Bool} (clash : b ≡ clashes J) where
-      pub join-clashes : {r : Stepped} → b ≡ true → r ≡ record { state = s; answer = Refused 23 } → After t s (joined (modelIn t s) C D) t r
-      join-clashes h p =
-          after-refused (joined (modelIn t s) C D) (refusal 23) (joined-23 (modelIn t s) C D (rw width at narrow) (sym (ap clashes whole) ∙ sym clash ∙ h)) p
+    module _ (narrow : length C ≤ widthLimit) {b : Bool} (clash : b ≡ clashes C) where
+      pub resolvent-clashes : {r : Stepped} → b ≡ true → r ≡ record { state = s; answer = Refused 23 } → After t s (tested (modelIn t s) C) t r
+      resolvent-clashes h p = after-refused (tested (modelIn t s) C) (refusal 23) (tested-23 (modelIn t s) C narrow (sym clash ∙ h)) p
 
-      pub join-added : {t′ : Tables} {r : Stepped} → b ≡ false → After t s (fitted (modelIn t s) (One J)) t′ r → After t s (joined (modelIn t s) C D) t′ r
-      join-added calm e =
-          e ∙ ap (examined t (modelIn t s))
-          (ap (λ (K : Clause). fitted (modelIn t s) (One K)) whole
-          ∙ sym (joined-fitted (modelIn t s) C D (rw width at narrow) (sym (ap clashes whole) ∙ sym clash ∙ calm)))
+      pub resolvent-added : {t′ : Tables} {r : Stepped} → b ≡ false → After t s (fitted (modelIn t s) (One C)) t′ r → After t s (tested (modelIn t s) C) t′ r
+      resolvent-added calm e = e ∙ ap (examined t (modelIn t s)) (sym (tested-fitted (modelIn t s) C narrow (sym clash ∙ calm)))
 
 -- ---- two clauses and a variable
 
@@ -229,22 +225,21 @@ new-small v h = rw (new-literal v h) (omega arith)
 
 -- ---- the parts of a fork
 
-module _ (t : Tables) (s : State) (h : Holding t s) (X : Clause) (left right : ℕ) (w : Set) {a b : ℕ} (isLeft : a ≡ length (pick left X)) (isRight : b ≡ length (pick right X))
-    {f : Bool} (told : f ≡ full s 2 (a + 1 + (b + 1)) 1) where
+module _ (t : Tables) (s : State) (h : Holding t s) (X Y : Clause) (w : Set) {f : Bool} (told : f ≡ full s 2 (length X + 1 + (length Y + 1)) 1) where
   abbrev C : Clause
-  C = pick left X ++ (pos (suc (s .variables .0)) ∷ [])
+  C = X ++ (pos (suc (s .variables .0)) ∷ [])
 
   abbrev D : Clause
-  D = pick right X ++ (negsuc (s .variables .0) ∷ [])
+  D = Y ++ (negsuc (s .variables .0) ∷ [])
 
   abbrev forked : Examined
   forked = fitted (modelIn t s) (Two C D w)
 
-  first : a + 1 ≡ length C
-  first = one-more (pick left X) (pos (suc (s .variables .0))) isLeft
+  first : length X + 1 ≡ length C
+  first = one-more X (pos (suc (s .variables .0))) refl
 
-  second : b + 1 ≡ length D
-  second = one-more (pick right X) (negsuc (s .variables .0)) isRight
+  second : length Y + 1 ≡ length D
+  second = one-more Y (negsuc (s .variables .0)) refl
 
   pub fork-full : {r : Stepped} → f ≡ true → r ≡ record { state = s; answer = Refused 25 } → After t s forked t r
   fork-full = two-full t s h forked C D w refl first second refl told
@@ -253,18 +248,19 @@ module _ (t : Tables) (s : State) (h : Holding t s) (X : Clause) (left right : �
     pub fork-variable : s .variables .0 < variableLimit
     fork-variable = two-variable t s h forked C D w refl first second refl told free
 
-    pub fork-room : s .literals + (length (pick left X) + length (pick right X) + 2) ≤ length (t .literals)
-    fork-room = omega (arith, two-room t s h forked C D w refl first second refl told free, first, second, isLeft, isRight)
+    pub fork-room : s .literals + (length X + length Y + 2) ≤ length (t .literals)
+    fork-room = omega (arith, two-room t s h forked C D w refl first second refl told free, first, second)
 
-    pub fork-asked : RoomFor s 2 (a + 1 + (b + 1)) 1 × (clauseLimit ≤ length (t .ends)) × (variableLimit ≤ length (t .sets)) × (variableLimit ≤ length (t .kinds)) × (s .steps .0 < clauseLimit)
+    pub fork-asked : RoomFor s 2 (length X + 1 + (length Y + 1)) 1 × (clauseLimit ≤ length (t .ends)) × (variableLimit ≤ length (t .sets)) × (variableLimit ≤ length (t .kinds))
+        × (s .steps .0 < clauseLimit)
     fork-asked = two-asked t s h forked C D w refl first second refl told free
 
     pub fork-added : {l z : List ℤ} {d u k : List ℕ} {r : State}
-        → z ≡ ((pick left X ++ (toZ w16 (s .variables .0 + 1) ∷ [])) ++ (pick right X ++ (negℤ (toZ w16 (s .variables .0 + 1)) ∷ [])))
-        ++ drop (length ((pick left X ++ (toZ w16 (s .variables .0 + 1) ∷ [])) ++ (pick right X ++ (negℤ (toZ w16 (s .variables .0 + 1)) ∷ []))))
+        → z ≡ ((X ++ (toZ w16 (s .variables .0 + 1) ∷ [])) ++ (Y ++ (negℤ (toZ w16 (s .variables .0 + 1)) ∷ [])))
+        ++ drop (length ((X ++ (toZ w16 (s .variables .0 + 1) ∷ [])) ++ (Y ++ (negℤ (toZ w16 (s .variables .0 + 1)) ∷ []))))
         (take (length (t .literals) - s .literals) (drop (s .literals) (t .literals)))
         → l ≡ putMid (s .literals) (length (t .literals) - s .literals) (t .literals) z
-        → d ≡ set (set (t .ends) (s .clauses .0) (s .literals + (a + 1))) (s .clauses .0 + 1) (s .literals + (a + 1) + (b + 1)) → u ≡ set (t .sets) (s .variables .0) w
-        → k ≡ set (t .kinds) (s .variables .0) 3 → r ≡ stepCounted (variableAdded (clauseEnded (clauseEnded s (a + 1)) (b + 1)))
-        → After t s forked (tablesOf l d u k) (record { state = r; answer = Accepted })
+        → d ≡ set (set (t .ends) (s .clauses .0) (s .literals + (length X + 1))) (s .clauses .0 + 1) (s .literals + (length X + 1) + (length Y + 1))
+        → u ≡ set (t .sets) (s .variables .0) w → k ≡ set (t .kinds) (s .variables .0) 3
+        → r ≡ stepCounted (variableAdded (clauseEnded (clauseEnded s (length X + 1)) (length Y + 1))) → After t s forked (tablesOf l d u k) (record { state = r; answer = Accepted })
     fork-added p = two-added t s h forked C D w refl first second refl told free (rw (new-literal (s .variables .0) fork-variable) at p)

@@ -2,21 +2,27 @@
 -- Of each: what it is where a loop has nothing before it, D ≡ [], and by its literal in front, D ≡ k ∷ R.
 use mathlib.Core.Path.{_≡_, refl, ap, sym, _∙_}
 use mathlib.Core.Logic.{_⊎_, inl, inr, _≢_}
-use mathlib.Core.Bool.{Bool, true, false, _||_}
+use mathlib.Core.Bool.{Bool, true, false, _&&_, _||_}
 use mathlib.Core.List.{[], _∷_}
-use Prim.Native.Nat.{ℕ, _+_, _/_, _%_, _≤_, _<_, _^_}
+use Prim.Native.Nat.{ℕ, zero, suc, _+_, _-_, _*_, _/_, _%_, _≤_, _<_, _^_, max}
+use native.Mathlib.Nat.{mod-lt, one-mul, pow-suc}
 use native.Mathlib.Omega.{arith}
 use borrow.Author.Tests.{eq-eqb, ne-eqb, eqb-true, eqb-false}
-use lib.Dec.{eqb}
+use lib.Bits.{bitOr, or-step}
+use lib.Dec.{eqb, eqb·suc-zero}
 use lib.IntN.{ℤ, pos, natAbs}
 use lib.ListN.{length, drop, getD}
+use lib.Pow.{pow-pos, shl-exact}
 use lib.Signed.{mag}
 use mir.Syntax.{w16}
 use mir.Val.{SFits, toZ, ofZ}
+use Rattle.dqbf.specs.Limits.{widthLimit}
 use Rattle.dqbf.specs.Literal.{Clause, holds, without, pick, covers, clashes}
+use Rattle.dqbf.specs.Set.{bit}
 use Rattle.dqbf.proofs.Laws.Literals.{same-same, same-not}
 use Rattle.dqbf.proofs.Laws.Signed.{var-kept}
-use Rattle.dqbf.proofs.Laws.Tests.{either, or-left, or-right}
+use Rattle.dqbf.proofs.Laws.Tests.{either, or-no}
+use Rattle.dqbf.proofs.Laws.Words.{bit-or, bit-ext, bit-zero}
 use Rattle.clauses.proofs.Laws.Places.{list-front}
 use Rattle.clauses.proofs.Laws.Literals.{bits-same, bits-differ}
 
@@ -81,32 +87,43 @@ module _ (mask : ℕ) where
     unfolding pick
     pick-passed n = rw (e, ne-eqb (mask % 2) 1 n)
 
--- ---- covers
+-- ---- covers: the bits of the two masks together are those below the clause's length
 
-either-bit : (a b : ℕ) → a % 2 + b % 2 ≢ 0 → (eqb (a % 2) 1 || eqb (b % 2) 1) ≡ true
-either-bit a b n = go (either (eqb (a % 2) 1))
+no-bits : (a b : ℕ) → (eqb a 0 && eqb b 0) ≡ eqb (bitOr a b) 0
+no-bits zero b = refl
+no-bits (suc a) b = rw (eqb·suc-zero a) (sym (ne-eqb (bitOr (suc a) b) 0 (λ e. absurd (omega (arith, none (suc a) b e)))))
   where
-    go : (eqb (a % 2) 1 ≡ true) ⊎ (eqb (a % 2) 1 ≡ false) → (eqb (a % 2) 1 || eqb (b % 2) 1) ≡ true
-    go (inl q) = or-left (eqb (a % 2) 1) (eqb (b % 2) 1) q
-    go (inr q) = or-right (eqb (a % 2) 1) (eqb (b % 2) 1) (eq-eqb (b % 2) 1 (omega (arith, n, eqb-false (a % 2) 1 q)))
+    none : (a b : ℕ) → bitOr a b ≡ 0 → a ≡ 0
+    none a b e = bit-ext a 0 (λ i. or-no (bit a i) (bit b i) (sym (bit-or a b i) ∙ ap (λ (x : ℕ). bit x i) e ∙ bit-zero i) .0 ∙ sym (bit-zero i))
 
-module _ (left right : ℕ) where
-  pub covers-end : {D : Clause} → D ≡ [] → left ≡ 0 → covers left right D ≡ eqb right 0
-  unfolding covers
-  covers-end e q = rw (e, q)
+-- d and e are the lowest bits, Q the other bits of both, P the power of 2 for one place less
+module _ (Q P : ℕ) (some : 0 < P) where
+  same-rest : {n : ℕ} → n ≡ Q * 2 + 1 → eqb Q (P - 1) ≡ eqb n (P * 2 - 1)
+  same-rest {n} e = go (either (eqb Q (P - 1)))
+    where
+      go : (eqb Q (P - 1) ≡ true) ⊎ (eqb Q (P - 1) ≡ false) → eqb Q (P - 1) ≡ eqb n (P * 2 - 1)
+      go (inl q) = q ∙ sym (eq-eqb n (P * 2 - 1) (omega (arith, eqb-true Q (P - 1) q)))
+      go (inr q) = let ne : Q ≢ P - 1 = eqb-false Q (P - 1) q in q ∙ sym (ne-eqb n (P * 2 - 1) (λ t. ne (omega arith)))
 
-  pub covers-beyond : {D : Clause} → D ≡ [] → left ≢ 0 → covers left right D ≡ false
-  unfolding covers
-  covers-beyond e n = rw (e, ne-eqb left 0 n)
+  one-place : (d e : ℕ) → d < 2 → e < 2 → ((eqb d 1 || eqb e 1) && eqb Q (P - 1)) ≡ eqb (Q * 2 + max d e) (P * 2 - 1)
+  one-place zero zero h k = sym (ne-eqb (Q * 2 + 0) (P * 2 - 1) (λ t. absurd (omega arith)))
+  one-place zero (suc zero) h k = same-rest refl
+  one-place (suc zero) zero h k = same-rest refl
+  one-place (suc zero) (suc zero) h k = same-rest refl
+  one-place zero (suc (suc e)) h k = absurd (omega arith)
+  one-place (suc zero) (suc (suc e)) h k = absurd (omega arith)
+  one-place (suc (suc d)) e h k = absurd (omega arith)
 
-  module _ {D R : Clause} {k : ℤ} (e : D ≡ k ∷ R) where
-    pub covers-missed : left % 2 + right % 2 ≡ 0 → covers left right D ≡ false
-    unfolding covers
-    covers-missed q = rw (e, ne-eqb (left % 2) 1 (λ t. omega arith), ne-eqb (right % 2) 1 (λ t. omega arith))
+pub covers-bits : (left right : ℕ) (C : Clause) → covers left right C ≡ eqb (bitOr left right) (2 ^ length C - 1)
+unfolding covers
+covers-bits left right [] = no-bits left right
+covers-bits left right (l ∷ C) =
+    rw (covers-bits (left / 2) (right / 2) C, or-step left right, pow-suc 2 (length C))
+    (one-place (bitOr (left / 2) (right / 2)) (2 ^ length C) (pow-pos (length C)) (left % 2) (right % 2) (mod-lt left (omega arith)) (mod-lt right (omega arith)))
 
-    pub covers-passed : left % 2 + right % 2 ≢ 0 → covers left right D ≡ covers (left / 2) (right / 2) R
-    unfolding covers
-    covers-passed n = rw (e, either-bit left right n)
+-- the power of 2 for a width, as the machine shifts it
+pub shifted : (n : ℕ) → n ≤ widthLimit → (1 * 2 ^ n) % 2 ^ 64 ≡ 2 ^ n
+shifted n h = shl-exact {a = 1} 1 n 64 (omega arith) (omega arith) ∙ one-mul (2 ^ n)
 
 -- ---- clashes, of a list from place i on, whose entries there were read
 

@@ -3,7 +3,7 @@
 use mathlib.Core.Path.{_≡_, ap, sym, _∙_}
 use mathlib.Core.Logic.{_≢_}
 use mathlib.Core.Bool.{true, false}
-use Prim.Native.Nat.{ℕ, _+_, _*_, _<_, _^_}
+use Prim.Native.Nat.{ℕ, _+_, _*_, _<_, _≤_, _^_}
 use native.Mathlib.Omega.{arith}
 use borrow.Author.Tests.{ltb-true}
 use lib.IntN.{ℤ, pos, negsuc, natAbs}
@@ -33,3 +33,19 @@ pub rank-positive : (l : ℤ) → ltZ l (pos 0) ≡ false → rank l ≡ 2 * nat
 unfolding rank
 rank-positive (pos x) t = omega arith
 rank-positive (negsuc k) t = absurd (let z : _≡_ {A = ℕ} 0 1 = cc in omega arith)
+
+-- ---- two entries that were read
+
+module _ {l k : ℤ} where
+  pub read-same : mag l < 2 ^ 15 → mag k < 2 ^ 15 → ofZ w16 l ≡ ofZ w16 k → l ≡ k
+  read-same f g q = bits-same f q ∙ kept16 g
+
+  pub read-differ : (ofZ w16 l ≡ ofZ w16 k → ⊥) → l ≢ k
+  read-differ n q = n (ap (ofZ w16) q)
+
+module _ (l k : ℤ) (f : mag l < 2 ^ 15) (g : mag k < 2 ^ 15) {a b : ℕ} (isA : a ≡ rank (toZ w16 (ofZ w16 l))) (isB : b ≡ rank (toZ w16 (ofZ w16 k))) where
+  pub read-before : a < b → rank l < rank k
+  read-before h = rw (isA, isB, kept16 {z = l} f, kept16 {z = k} g) at h
+
+  pub read-behind : b ≤ a → rank k ≤ rank l
+  read-behind h = rw (isA, isB, kept16 {z = l} f, kept16 {z = k} g) at h

@@ -1,24 +1,28 @@
 -- Sets of variables and clauses over a list of sets (specs/Sets.antt), a literal at a time, and over a model.
--- Offers: `set-none`, `set-past`, `set-at` for a variable; for a part and for `reads` what each literal in front makes of them; `model-set`, `model-clause-set`, `model-reads`: over a model's sets they are the model's own.
+-- Offers: `set-at`, `set-there` for a variable; `set-more`, `set-end` for a clause's set; `model-set`, `model-clause-set`: over a model's sets they are the model's own; `reads-single`.
 use mathlib.Core.Path.{_≡_, refl, ap, sym, _∙_}
 use mathlib.Core.Logic.{_≢_}
-use mathlib.Core.Bool.{true, false, or-assoc}
+use mathlib.Core.Bool.{Bool, true, false, _&&_, or-assoc, true≢false}
 use mathlib.Core.List.{List, [], _∷_, _++_}
 use Prim.Native.Nat.{ℕ, zero, suc, _-_, _<_, _≤_, _^_}
 use native.Mathlib.Omega.{arith}
+use borrow.Author.Tests.{eq-eqb, ne-eqb, eqb-true}
 use lib.Bits.{or-zero-r}
-use lib.IntN.{ℤ, natAbs}
-use lib.ListN.{length, getD, List·getD-eq-default}
+use lib.Dec.{eqb}
+use lib.IntN.{ℤ, pos, natAbs}
+use lib.ListN.{length, getD}
 use lib.Signed.{mag}
 use mir.Syntax.{w16}
-use mir.Val.{toZ, ofZ}
+use mir.Val.{SFits, toZ, ofZ}
+use mir.Facts.{toZ-ofZ}
 use Rattle.dqbf.specs.Literal.{Clause}
-use Rattle.dqbf.specs.Set.{Set, emptySet, union, inside, bit}
+use Rattle.dqbf.specs.Set.{Set, emptySet, single, union, common, inside, bit}
 use Rattle.dqbf.specs.Model.{Model, setOf, clauseSet}
 use Rattle.dqbf.specs.Rules.{reads}
+use Rattle.dqbf.proofs.Laws.Lists.{nth}
 use Rattle.dqbf.proofs.Laws.Signed.{var-kept}
-use Rattle.dqbf.proofs.Laws.Words.{bit-or, bit-ext}
-use Rattle.clauses.specs.Sets.{setIn, clauseSetIn, readsIn}
+use Rattle.dqbf.proofs.Laws.Words.{bit-and, bit-or, bit-ext, bit-single, bit-zero}
+use Rattle.clauses.specs.Sets.{setIn, clauseSetIn, InUse}
 
 -- ---- unions
 
@@ -28,20 +32,40 @@ union-assoc r s t = bit-ext (union (union r s) t) (union r (union s t)) go
     go : (i : ℕ) → bit (union (union r s) t) i ≡ bit (union r (union s t)) i
     go i = rw (bit-or (union r s) t i, bit-or r s i, bit-or r (union s t) i, bit-or s t i) (or-assoc (bit r i) (bit s i) (bit t i))
 
+-- ---- one universal
+
+inside-single : (i : ℕ) (s : Set) → inside (single i) s ≡ bit s i
+inside-single i s = go (bit s i) refl
+  where
+    both : (j : ℕ) → bit (common (single i) s) j ≡ (eqb i j && bit s j)
+    both j = bit-and (single i) s j ∙ ap (λ (b : Bool). b && bit s j) (bit-single i j)
+
+    go : (b : Bool) → bit s i ≡ b → inside (single i) s ≡ b
+    go true e = eq-eqb (common (single i) s) (single i) (bit-ext (common (single i) s) (single i) (λ j. both j ∙ here j (eqb i j) refl ∙ sym (bit-single i j)))
+      where
+        here : (j : ℕ) (c : Bool) → eqb i j ≡ c → (eqb i j && bit s j) ≡ eqb i j
+        here j true q = rw (← eqb-true i j q, eq-eqb i i refl, e)
+        here j false q = rw q
+    go false e =
+        ne-eqb (common (single i) s) (single i)
+        (λ q. true≢false (sym (bit-single i i ∙ eq-eqb i i refl) ∙ ap (λ (x : Set). bit x i) (sym q) ∙ both i ∙ rw (eq-eqb i i refl, e)))
+
 -- ---- setIn
 
-module _ (sets : List Set) where
-  pub set-none : {x : ℕ} → x ≡ 0 → setIn sets x ≡ emptySet
-  unfolding setIn
-  set-none e = rw e
+-- the variable of a literal that is passed
+pub variable-read : {l : ℤ} → SFits w16 l → {x : ℕ} → x ≡ natAbs (toZ w16 (ofZ w16 l)) → x ≡ natAbs l
+variable-read f q = q ∙ ap natAbs (toZ-ofZ {w = w16} f)
 
+module _ (sets : List Set) where
   pub set-at : (x : ℕ) → x ≢ 0 → setIn sets x ≡ getD sets (x - 1) emptySet
   unfolding setIn
   set-at zero n = absurd (n refl)
   set-at (suc i) n = let e : suc i - 1 ≡ i = omega arith in rw e
 
-  pub set-past : (x : ℕ) → x ≢ 0 → length sets ≤ x - 1 → setIn sets x ≡ emptySet
-  set-past x n h = set-at x n ∙ List·getD-eq-default sets emptySet h
+  -- an entry that was read has a set
+  pub set-there : {C : Clause} → InUse sets C → (i : ℕ) → i < length C → mag (getD C i (pos 0)) < 2 ^ 15
+      → (0 < natAbs (toZ w16 (ofZ w16 (getD C i (pos 0))))) × (natAbs (toZ w16 (ofZ w16 (getD C i (pos 0)))) ≤ length sets)
+  set-there {C} u i h f = rw (var-kept (getD C i (pos 0)) f) (u (getD C i (pos 0)) (nth C i (pos 0) h))
 
   -- ---- of what a loop has before it, D: its literal in front is k, an entry whose set S was looked up
 
@@ -54,22 +78,9 @@ module _ (sets : List Set) where
     unfolding clauseSetIn
     set-more r u = rw (e, looked-up, u) (sym (union-assoc r S (clauseSetIn sets R)))
 
-    module _ (s : Set) where
-      pub reads-found : inside s S ≡ true → readsIn sets s D ≡ true
-      unfolding readsIn
-      reads-found t = rw (e, looked-up, t)
-
-      pub reads-passed : inside s S ≡ false → readsIn sets s D ≡ readsIn sets s R
-      unfolding readsIn
-      reads-passed t = rw (e, looked-up, t)
-
   pub set-end : (r : Set) {D : Clause} → D ≡ [] → union r (clauseSetIn sets D) ≡ r
   unfolding clauseSetIn
   set-end r e = rw e (or-zero-r r)
-
-  pub reads-end : (s : Set) {D : Clause} → D ≡ [] → readsIn sets s D ≡ false
-  unfolding readsIn
-  reads-end s e = rw e
 
 -- ---- over the sets of a model
 
@@ -87,7 +98,11 @@ module _ (m : Model) where
   model-clause-set [] = refl
   model-clause-set (l ∷ C) = rw (model-set (natAbs l), model-clause-set C)
 
-  pub model-reads : (s : Set) (C : Clause) → readsIn setsOf s C ≡ reads m s C
-  unfolding readsIn reads
-  model-reads s [] = refl
-  model-reads s (l ∷ C) = rw (model-set (natAbs l), model-reads s C)
+  -- a set of one universal: some literal's set contains it exactly if the clause's does
+  pub reads-single : (i : ℕ) (C : Clause) → reads m (single i) C ≡ inside (single i) (clauseSet m C)
+  unfolding reads clauseSet
+  reads-single i C = read C ∙ sym (inside-single i (clauseSet m C))
+    where
+      read : (C : Clause) → reads m (single i) C ≡ bit (clauseSet m C) i
+      read [] = sym (bit-zero i)
+      read (l ∷ C) = rw (inside-single i (setOf m (natAbs l)), read C) (sym (bit-or (setOf m (natAbs l)) (clauseSet m C) i))

@@ -1,6 +1,6 @@
--- Writing a list over the front of another (specs/Writing.antt), an element at a time, and over the tail of a table that is lent for it. Any element type.
--- Offers: `Writing`, where a writer stands, with `writing-start`, `writing-room`, `writing-more`, `writing-front`, `writing-done`;
--- of what it left, `written-front`, `written-length`, `written-within`, `written-more`, `written-behind`;
+-- Writing a list to the front of another (specs/Writing.antt), an element at a time, and over the tail of a table that is lent for it. Any element type.
+-- Offers: `Copying`, where a writer stands, with `copying-start`, `copying-kept`, `copying-passed`, `copying-done`; `Writing`, that it left the rest as it was,
+-- with `writing-start`, `writing-more`, `writing-done`; of what it left, `held-behind`, `held-length`, `held-within`, `written-more`, `written-behind`;
 -- for a table whose tail from n on is lent, `tail-room`, what a writer into it requires, and `tail-stored`, the table after it.
 use mathlib.Core.Path.{_≡_, refl, ap, sym, _∙_}
 use mathlib.Core.List.{List, [], _∷_, _++_, append-nil}
@@ -8,63 +8,92 @@ use Prim.Native.Nat.{ℕ, _+_, _-_, _<_, _≤_}
 use native.Mathlib.Numerals.{add-one}
 use native.Mathlib.Omega.{arith}
 use borrow.Rule.Slice.PartMut.{putMid}
-use lib.ListN.{length, take, drop, set, length-set, length-append, length-drop, take-append-drop}
-use lib.Seq.{append-snoc, length-take-le, drop-set-lt, take-suc-set, drop-drop, take-at}
-use Rattle.dqbf.proofs.Laws.Parts.{front-part, front-set, tail-lent, tail-written}
-use Rattle.clauses.specs.Writing.{Written}
+use lib.ListN.{length, take, drop, set, length-set, length-append, length-drop, length-take, take-append-drop}
+use lib.Seq.{append-snoc, length-take-le, drop-set-lt, take-set-le, take-suc-set, drop-drop, take-append-add}
+use Rattle.dqbf.proofs.Laws.Parts.{front-part, front-set, tail-lent, tail-back, tail-written}
+use Rattle.clauses.specs.Writing.{Written, Held}
 
 module _ {A : Type 0} where
-  -- ---- Writing
+  -- ---- copying
 
-  -- Of the list ys, so many elements as `count` says are written over the front of xs, which is now zs; `rest` is to come.
-  pub record Writing (ys xs zs : List A) (count : ℕ) (rest : List A) : Type 0 where
+  -- Of the list ys, so many elements as `count` says stand at the front of zs, which was xs; `rest` is to come.
+  pub record Copying (ys xs zs : List A) (count : ℕ) (rest : List A) : Type 0 where
     pub within : count ≤ length zs
     pub same : length zs ≡ length xs
     pub parts : ys ≡ take count zs ++ rest
-    pub behind : drop count zs ≡ drop count xs
 
-  pub writing-start : (ys xs : List A) → Writing ys xs xs 0 ys
-  writing-start ys xs = record { within = omega arith; same = refl; parts = refl; behind = refl }
+  pub copying-start : (ys xs : List A) → Copying ys xs xs 0 ys
+  copying-start ys xs = record { within = omega arith; same = refl; parts = refl }
 
-  module _ {ys xs zs : List A} {count : ℕ} {rest : List A} (w : Writing ys xs zs count rest) where
-    -- there is room for one more element
-    pub writing-room : {y : A} {more : List A} → length ys ≤ length xs → rest ≡ y ∷ more → count < length zs
-    writing-room room e =
-        omega (arith, w .within, w .same, ap length (w .parts), length-append (take count zs) rest, length-take-le count zs (w .within), ap length e)
-
-    pub writing-more : {v y : A} {more : List A} → length ys ≤ length xs → rest ≡ y ∷ more → v ≡ y → Writing ys xs (set zs count v) (count + 1) more
-    writing-more {y = y} {more} room e q =
-        let h : count < length zs = writing-room room e in
-        let k : count < count + 1 = omega arith in
+  module _ {ys xs zs : List A} {count : ℕ} {rest : List A} (w : Copying ys xs zs count rest) where
+    -- an element is written that belongs to ys, or one that does not, which the next is written over
+    pub copying-kept : {v y : A} {more : List A} → count < length zs → rest ≡ y ∷ more → v ≡ y → Copying ys xs (set zs count v) (count + 1) more
+    copying-kept {y = y} {more} h e q =
         rw q
         (record {
           within = omega (arith, length-set zs count y);
           same = length-set zs count y ∙ w .same;
           parts = w .parts ∙ rw (e, add-one count, take-suc-set zs count y h) (sym (append-snoc (take count zs) y more));
-          behind = rw (drop-set-lt (count + 1) zs count y k, ← drop-drop 1 count zs, ← drop-drop 1 count xs, w .behind);
         })
 
-    pub writing-front : rest ≡ [] → take count zs ≡ ys
-    writing-front e = sym (w .parts ∙ rw (e, append-nil (take count zs)))
+    pub copying-passed : (v : A) {more : List A} → rest ≡ more → Copying ys xs (set zs count v) count more
+    copying-passed v e =
+        let h : count ≤ count = omega arith in
+        record {
+          within = omega (arith, w .within, length-set zs count v);
+          same = length-set zs count v ∙ w .same;
+          parts = w .parts ∙ rw (e, take-set-le count zs count v h);
+        }
+
+    pub copying-done : rest ≡ [] → Held ys zs count
+    copying-done e =
+        let front : take count zs ≡ ys = sym (w .parts ∙ rw (e, append-nil (take count zs))) in
+        record { count = sym (length-take-le count zs (w .within)) ∙ ap length front; front = front }
+
+  -- another list by value behind what stands there, over the tail that is lent from n on
+  pub held-behind : (zs : List A) (n : ℕ) → n ≤ length zs → {us ws : List A} {k : ℕ} → length ws ≡ length (take (length zs - n) (drop n zs)) → Held us ws k
+      → Held (take n zs ++ us) (putMid n (length zs - n) zs ws) (n + k)
+  held-behind zs n h {us} {ws} {k} same v =
+      let fronts : length (take n zs) ≡ n = length-take-le n zs h in
+      record {
+        count = omega (arith, length-append (take n zs) us, fronts, v .count);
+        front = rw (tail-back zs ws n, ← v .front) (ap (λ (i : ℕ). take (i + k) (take n zs ++ ws)) (sym fronts) ∙ take-append-add (take n zs) ws k);
+      }
+
+  -- ---- writing
+
+  -- what stands behind is left
+  pub record Writing (ys xs zs : List A) (count : ℕ) (rest : List A) : Type 0 where
+    pub copied : Copying ys xs zs count rest
+    pub behind : drop count zs ≡ drop count xs
+
+  pub writing-start : (ys xs : List A) → Writing ys xs xs 0 ys
+  writing-start ys xs = record { copied = copying-start ys xs; behind = refl }
+
+  module _ {ys xs zs : List A} {count : ℕ} {rest : List A} (w : Writing ys xs zs count rest) where
+    pub writing-more : {v y : A} {more : List A} → count < length zs → rest ≡ y ∷ more → v ≡ y → Writing ys xs (set zs count v) (count + 1) more
+    writing-more {v} h e q =
+        let k : count < count + 1 = omega arith in
+        record {
+          copied = copying-kept (w .copied) h e q;
+          behind = rw (drop-set-lt (count + 1) zs count v k, ← drop-drop 1 count zs, ← drop-drop 1 count xs, w .behind);
+        }
 
     pub writing-done : rest ≡ [] → Written ys xs zs count
     writing-done e =
-        let q : take count zs ≡ ys = writing-front e in
-        let n : count ≡ length ys = sym (length-take-le count zs (w .within)) ∙ ap length q in
-        record { count = n; left = sym (take-append-drop count zs) ∙ rw (q, w .behind, n) }
+        let held : Held ys zs count = copying-done (w .copied) e in
+        record { count = held .count; left = sym (take-append-drop count zs) ∙ rw (held .front, w .behind, held .count) }
 
-  -- ---- Written
+  -- ---- what was written
+
+  module _ {ys zs : List A} {n : ℕ} (w : Held ys zs n) where
+    pub held-length : n ≡ length (take n zs)
+    held-length = w .count ∙ sym (ap length (w .front))
+
+    pub held-within : n ≤ length zs
+    held-within = omega (arith, held-length, length-take n zs)
 
   module _ {ys xs zs : List A} {n : ℕ} (w : Written ys xs zs n) where
-    pub written-front : take n zs ≡ ys
-    written-front = rw (w .left) (take-at ys (drop (length ys) xs) n (sym (w .count)))
-
-    pub written-length : n ≡ length (take n zs)
-    written-length = w .count ∙ sym (ap length written-front)
-
-    pub written-within : n ≤ length zs
-    written-within = omega (arith, w .count, ap length (w .left), length-append ys (drop (length ys) xs))
-
     -- one element more behind what was written
     pub written-more : {v y : A} → n < length xs → v ≡ y → Written (ys ++ (y ∷ [])) xs (set zs n v) (n + 1)
     written-more {y = y} h q =
@@ -87,3 +116,9 @@ module _ {A : Type 0} where
     pub tail-stored : {ys zs : List A} {k : ℕ} → Written ys (take (length xs - n) (drop n xs)) zs k
         → putMid n (length xs - n) xs zs ≡ take n xs ++ (ys ++ drop (length ys) (drop n xs))
     tail-stored {ys} {zs} w = tail-written xs zs ys n (length ys) (w .left)
+
+    -- it comes back as long as it was
+    pub tail-same : n ≤ length xs → (ys : List A) → length ys ≡ length (take (length xs - n) (drop n xs)) → length (putMid n (length xs - n) xs ys) ≡ length xs
+    tail-same h ys e =
+        let same : length ys ≡ length (drop n xs) = e ∙ ap length (tail-lent xs n) in
+        rw (tail-back xs ys n) (omega (arith, length-append (take n xs) ys, length-take-le n xs h, length-drop n xs))

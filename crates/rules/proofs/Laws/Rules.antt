@@ -1,6 +1,6 @@
 -- The three rules over tables that hold a model: clauses by number, and each test as the code comes to it, one law for each outcome.
 use mathlib.Core.Path.{_≡_, refl, sym, _∙_, ap}
-use mathlib.Core.Logic.{_≢_}
+use mathlib.Core.Logic.{_⊎_, inl, inr, _≢_}
 use mathlib.Core.Bool.{Bool, true, false, cond, not, _&&_, _||_, true≢false}
 use mathlib.Core.List.{[], _∷_, _++_}
 use Prim.Native.Nat.{ℕ, zero, suc, _+_, _-_, _≤_, _<_}
@@ -9,35 +9,40 @@ use borrow.Author.Tests.{eq-eqb, ne-eqb}
 use lib.Dec.{eqb, ltb}
 use lib.IntN.{ℤ, pos, negsuc, negℤ, natAbs}
 use lib.ListN.{length, take, drop, length-take}
+use lib.Seq.{length-take-le}
 use Rattle.dqbf.specs.Limits.{tables, widthLimit, literalRange}
 use Rattle.dqbf.specs.Refusal.{refusal}
 use Rattle.dqbf.specs.Literal.{Clause, _∈_, literalIn, holds, without, join, clashes, pick, covers}
-use Rattle.dqbf.specs.Set.{Set, inside, common}
+use Rattle.dqbf.specs.Set.{Set, single, inside, common}
 use Rattle.dqbf.specs.Model.{Model, clauses, used, kindOf, setOf, clauseSet}
 use Rattle.dqbf.specs.Record.{resolution, reduction, fork}
 use Rattle.dqbf.specs.Rules.{unknown, clauseAt, noRoom, resolvent, resolving, reads, reducing, forking}
 use Rattle.dqbf.specs.Run.{Examined, examine}
 use Rattle.dqbf.proofs.Laws.Tests.{or-no, or-left, or-right, no-or, eqb-same, ltb-no}
-use Rattle.dqbf.proofs.Laws.Clauses.{holds-in, without-short}
+use Rattle.dqbf.proofs.Laws.Clauses.{holds-in, pick-in, pick-short, without-in, without-short}
 use Rattle.dqbf.proofs.Laws.Outcomes.{resolution-first, resolution-second, resolution-22, resolution-24, resolution-23, resolution-25, resolution-accepted, reduction-21, reduction-22, reduction-26, reduction-27, reduction-25, reduction-accepted, fork-21, fork-28, fork-29, fork-25, fork-accepted}
 use Rattle.tables.specs.Tables.{Tables, modelIn, stretch, entry}
 use Rattle.tables.specs.declared.State.{State}
-use Rattle.clauses.specs.Sets.{readsIn, clauseSetIn}
-use Rattle.clauses.specs.Writing.{Written}
-use Rattle.clauses.proofs.Laws.Sets.{model-reads, model-clause-set}
-use Rattle.clauses.proofs.Laws.Writing.{written-front}
+use Rattle.clauses.specs.Sets.{clauseSetIn, InUse}
+use Rattle.clauses.specs.Writing.{Held}
+use Rattle.clauses.proofs.Laws.Sets.{model-clause-set, reads-single}
 use Rattle.tables.specs.Spread.{setRow}
 use Rattle.tables.proofs.Laws.Adding.{variable-count}
 use Rattle.tables.proofs.Laws.Held.{sets-is}
 use Rattle.tables.proofs.Laws.Formed.{long-is, formed-is}
 use Rattle.tables.proofs.Laws.Spread.{valid-held}
 use Rattle.tables.proofs.Laws.Entries.{unknown-told, range-rises, range-ends, range-narrow, clause-at, clause-there, kind-told, set-told, literal-in-use}
-use Rattle.additions.specs.Adding.{Holding, After, One, Two, fitted, joined}
+use Rattle.additions.specs.Adding.{Holding, After, One, Two, fitted, tested}
 use Rattle.rules.specs.Clauses.{isUnknown, Ranged}
 use Rattle.additions.specs.declared.Stepped.{Stepped}
 use Rattle.additions.specs.declared.StepAnswer.the-variants.{Refused}
-use Rattle.additions.proofs.Laws.Adding.{after-refused, joined-24, joined-23, joined-fitted, fitted-25, fitted-accepted}
+use Rattle.additions.proofs.Laws.Adding.{after-refused}
 use Rattle.rules.proofs.Laws.Pivots.{pivot-holds, pivot-is}
+
+kind-some : (m : Model) (v : ℕ) → kindOf m v ≢ 0 → 0 < v
+unfolding kindOf
+kind-some m zero n = absurd (n refl)
+kind-some m (suc i) n = omega arith
 
 not-true : (b : Bool) → not b ≡ true → b ≡ false
 not-true true h = sym h
@@ -110,10 +115,29 @@ module _ (t : Tables) (s : State) (h : Holding t s) where
         pivot-is tables (modelIn t s) (valid-held t s (h .lent) (h .formed)) few-variables (clauseAt (modelIn t s) c) (clause-there t s (h .lent) (h .formed) c some low) z (rw e at (sym p ∙ q))
 
     -- the variables of its literals are in use
-    pub clause-variable : (l : ℤ) → l ∈ clauseAt (modelIn t s) c → natAbs l ≤ s .variables .0
-    clause-variable l q = literal-in-use t s (h .lent) (h .formed) (clauseAt (modelIn t s) c) (clause-there t s (h .lent) (h .formed) c some low) l q
+    pub clause-variable : (l : ℤ) → l ∈ clauseAt (modelIn t s) c → (0 < natAbs l) × (natAbs l ≤ s .variables .0)
+    clause-variable l q =
+        let there = clause-there t s (h .lent) (h .formed) c some low in
+        let some = valid-held t s (h .lent) (h .formed) .kept (clauseAt (modelIn t s) c) there .over l q in
+        (kind-some (modelIn t s) (natAbs l) some, literal-in-use t s (h .lent) (h .formed) (clauseAt (modelIn t s) c) there l q)
 
--- ---- resolution: what is left of its tests behind 22 is the join's
+    -- so that each literal of a part has a set
+    part-in-use : {C A : Clause} → C ≡ stretch (entry (t .ends) (c - 1)) (entry (t .ends) c) (t .literals) → ((l : ℤ) → l ∈ A → l ∈ C) → {n : ℕ} → n ≡ s .variables .0
+        → InUse (take n (t .sets)) A
+    part-in-use e within isN l q =
+        let r = clause-variable l (rw (ranged-clause e) at (within l q)) in
+        let inside : s .variables .0 ≤ length (t .sets) = omega (arith, formed-is t s (h .formed) .counts .variables, long-is t (h .lent) .sets) in
+        (r .0, rw (isN, length-take-le (s .variables .0) (t .sets) inside) (r .1))
+
+    pub rest-in-use : {C A : Clause} → C ≡ stretch (entry (t .ends) (c - 1)) (entry (t .ends) c) (t .literals) → (p : ℤ) → A ≡ without p C → {n : ℕ} → n ≡ s .variables .0
+        → InUse (take n (t .sets)) A
+    rest-in-use {C} e p isA isN = rw isA (part-in-use e (λ l q. without-in p l C q .0) isN)
+
+    pub picked-in-use : {C A : Clause} → C ≡ stretch (entry (t .ends) (c - 1)) (entry (t .ends) c) (t .literals) → (mask : ℕ) → A ≡ pick mask C → {n : ℕ} → n ≡ s .variables .0
+        → InUse (take n (t .sets)) A
+    picked-in-use {C} e mask isA isN = rw isA (part-in-use e (λ l q. pick-in mask C l q) isN)
+
+-- ---- resolution: what is left of its tests behind 22 is the resolvent's
 
 module _ (m : Model) (c d : ℕ) (z : ℤ) (known : unknown m c ≡ false) (known′ : unknown m d ≡ false)
     (held : (holds z (clauseAt m c) && holds (negℤ z) (clauseAt m d)) ≡ true) where
@@ -123,19 +147,20 @@ module _ (m : Model) (c d : ℕ) (z : ℤ) (known : unknown m c ≡ false) (know
   abbrev B : Clause
   B = without (negℤ z) (clauseAt m d)
 
-  pub resolution-joined : examine tables m (resolution c d z) ≡ joined m A B
-  unfolding joined fitted resolvent resolving
-  resolution-joined = wide (ltb widthLimit (length (join A B))) refl
+  pub resolution-tested : examine tables m (resolution c d z) ≡ tested m (join A B)
+  unfolding tested fitted resolvent resolving
+  resolution-tested = wide (ltb widthLimit (length (join A B))) refl
     where
-      room : (b : Bool) → noRoom tables m (One (join A B)) ≡ b → ltb widthLimit (length (join A B)) ≡ false → clashes (join A B) ≡ false → examine tables m (resolution c d z) ≡ joined m A B
+      room : (b : Bool) → noRoom tables m (One (join A B)) ≡ b → ltb widthLimit (length (join A B)) ≡ false → clashes (join A B) ≡ false
+          → examine tables m (resolution c d z) ≡ tested m (join A B)
       room true e n k = rw (n, k, e) (resolution-25 tables m c d z known known′ held n k e)
       room false e n k = rw (n, k, e) (resolution-accepted tables m c d z known known′ held n k e)
 
-      calm : (b : Bool) → clashes (join A B) ≡ b → ltb widthLimit (length (join A B)) ≡ false → examine tables m (resolution c d z) ≡ joined m A B
+      calm : (b : Bool) → clashes (join A B) ≡ b → ltb widthLimit (length (join A B)) ≡ false → examine tables m (resolution c d z) ≡ tested m (join A B)
       calm true e n = rw (n, e) (resolution-23 tables m c d z known known′ held n e)
       calm false e n = room (noRoom tables m (One (join A B))) refl n e
 
-      wide : (b : Bool) → ltb widthLimit (length (join A B)) ≡ b → examine tables m (resolution c d z) ≡ joined m A B
+      wide : (b : Bool) → ltb widthLimit (length (join A B)) ≡ b → examine tables m (resolution c d z) ≡ tested m (join A B)
       wide true e = rw e (resolution-24 tables m c d z known known′ held e)
       wide false e = calm (clashes (join A B)) refl e
 
@@ -179,14 +204,14 @@ module _ (t : Tables) (s : State) (h : Holding t s) (c d : ℕ) (z : ℤ) {f g :
         pub resolve-complement : {r : Stepped} → not b ≡ true → r ≡ record { state = s; answer = Refused 22 } → After t s E t r
         resolve-complement k e = not-held (rw (second-in, not-true b k) (and-false (holds z (clauseAt (modelIn t s) c)))) e
 
-        pub resolve-joined : not b ≡ false → {A B : Clause} → A ≡ without P X → B ≡ without Q Y → E ≡ joined (modelIn t s) A B
-        resolve-joined k isA isB =
-            resolution-joined (modelIn t s) c d z (known-is t s h c told known) (known-is t s h d told′ known′) (rw (first-in, not-false a held, second-in, not-false b k))
-            ∙ rw (isA, isB, q, P-is, X-is, Y-is)
+        pub resolve-tested : not b ≡ false → {W : Clause} → W ≡ join (without P X) (without Q Y) → E ≡ tested (modelIn t s) W
+        resolve-tested k isW =
+            resolution-tested (modelIn t s) c d z (known-is t s h c told known) (known-is t s h d told′ known′) (rw (first-in, not-false a held, second-in, not-false b k))
+            ∙ rw (isW, q, P-is, X-is, Y-is)
 
--- a clause that was written to a local copy is as narrow there
-pub front-narrow : {ys xs zs : Clause} {n k : ℕ} → Written ys xs zs n → length ys ≤ k → length (take n zs) ≤ k
-front-narrow w h = rw (written-front w) h
+-- a clause by value is as narrow
+pub held-narrow : {ys zs : Clause} {n k : ℕ} → Held ys zs n → length ys ≤ k → length (take n zs) ≤ k
+held-narrow w h = rw (w .front) h
 
 -- ---- universal reduction
 
@@ -224,7 +249,7 @@ module _ (t : Tables) (s : State) (h : Holding t s) (c : ℕ) (z : ℤ) {f : Boo
 
       -- its variable is in use
       pub reduce-used : natAbs P ≤ s .variables .0
-      reduce-used = rw L-is (clause-variable t s h c told known z (holds-in z (clauseAt (modelIn t s) c) there))
+      reduce-used = rw L-is (clause-variable t s h c told known z (holds-in z (clauseAt (modelIn t s) c) there) .1)
 
       module _ {k : ℕ} (isK : k ≡ entry (t .kinds) (natAbs P)) where
         kind-is : kindOf (modelIn t s) (natAbs z) ≡ k
@@ -235,9 +260,23 @@ module _ (t : Tables) (s : State) (h : Holding t s) (c : ℕ) (z : ℤ) {f : Boo
             after-refused t s h U (refusal 26) (reduction-26 tables (modelIn t s) c z (known-is t s h c told known) there (rw kind-is (ne-eqb k 1 b))) e
 
         module _ (universal : k ≡ 1) {w : Set} (isW : w ≡ entry (t .sets) (natAbs P)) {A : Clause} (isA : A ≡ without P X) {n : ℕ} (isN : n ≡ s .variables .0) {b : Bool}
-            (isRead : b ≡ readsIn (take n (t .sets)) w A) where
+            {x : Set} (isSet : x ≡ clauseSetIn (take n (t .sets)) A) (isRead : b ≡ inside w x) where
+          w-is : w ≡ setOf (modelIn t s) (natAbs z)
+          w-is = isW ∙ set-told t s (h .lent) (h .formed) (natAbs P) reduce-used ∙ ap (λ (l : ℤ). setOf (modelIn t s) (natAbs l)) L-is
+
+          x-is : x ≡ clauseSet (modelIn t s) (without z (clauseAt (modelIn t s) c))
+          x-is = isSet ∙ rw (isN, sets-are t s h, isA, L-is, C-is) (model-clause-set (modelIn t s) (without z (clauseAt (modelIn t s) c)))
+
+          -- the variable is universal, so that its set is one place
+          one-place : (i : ℕ) × (setOf (modelIn t s) (natAbs z) ≡ single i)
+          one-place = let r = valid-held t s (h .lent) (h .formed) .sole (natAbs z) (kind-is ∙ universal) in (r .0, r .2)
+
+          contained : reads (modelIn t s) (setOf (modelIn t s) (natAbs z)) (without z (clauseAt (modelIn t s) c))
+              ≡ inside (setOf (modelIn t s) (natAbs z)) (clauseSet (modelIn t s) (without z (clauseAt (modelIn t s) c)))
+          contained = rw (one-place .1) (reads-single (modelIn t s) (one-place .0) (without z (clauseAt (modelIn t s) c)))
+
           read-is : reads (modelIn t s) (setOf (modelIn t s) (natAbs z)) (without z (clauseAt (modelIn t s) c)) ≡ b
-          read-is = sym (isRead ∙ rw (isN, sets-are t s h, isW, set-told t s (h .lent) (h .formed) (natAbs P) reduce-used, isA, L-is, C-is) (model-reads (modelIn t s) (setOf (modelIn t s) (natAbs z)) (without z (clauseAt (modelIn t s) c))))
+          read-is = contained ∙ sym (isRead ∙ rw (w-is, x-is))
 
           pub reduce-read : {r : Stepped} → b ≡ true → r ≡ record { state = s; answer = Refused 27 } → After t s U t r
           reduce-read q e =
@@ -277,13 +316,21 @@ module _ (t : Tables) (s : State) (h : Holding t s) (c left right : ℕ) {f : Bo
     pub fork-masks : {r : Stepped} → not a ≡ true → r ≡ record { state = s; answer = Refused 28 } → After t s K t r
     fork-masks b e = after-refused t s h K (refusal 28) (fork-28 tables (modelIn t s) c left right (known-is t s h c told known) (covers-is ∙ not-true a b)) e
 
-    module _ (whole : not a ≡ false) {n : ℕ} (isN : n ≡ s .variables .0) {x y : Set} (isLeft : x ≡ clauseSetIn (take n (t .sets)) (pick left X))
-        (isRight : y ≡ clauseSetIn (take n (t .sets)) (pick right X)) {p q : Bool} (lies : p ≡ inside x y) (around : q ≡ inside y x) where
+    -- each part has at most 32 literals
+    pub part-narrow : (mask : ℕ) → length (pick mask X) ≤ widthLimit
+    part-narrow mask = go (pick-short mask X)
+      where
+        go : (pick mask X ≡ X) ⊎ (length (pick mask X) < length X) → length (pick mask X) ≤ widthLimit
+        go (inl e) = rw e (ranged-narrow t s h c told known isX)
+        go (inr q) = omega (arith, ranged-narrow t s h c told known isX)
+
+    module _ (whole : not a ≡ false) {A B : Clause} (isA : A ≡ pick left X) (isB : B ≡ pick right X) {n : ℕ} (isN : n ≡ s .variables .0) {x y : Set}
+        (isLeft : x ≡ clauseSetIn (take n (t .sets)) A) (isRight : y ≡ clauseSetIn (take n (t .sets)) B) {p q : Bool} (lies : p ≡ inside x y) (around : q ≡ inside y x) where
       left-set : clauseSet (modelIn t s) (pick left (clauseAt (modelIn t s) c)) ≡ x
-      left-set = sym (isLeft ∙ rw (isN, sets-are t s h, X-clause) (model-clause-set (modelIn t s) (pick left (clauseAt (modelIn t s) c))))
+      left-set = sym (isLeft ∙ rw (isN, sets-are t s h, isA, X-clause) (model-clause-set (modelIn t s) (pick left (clauseAt (modelIn t s) c))))
 
       right-set : clauseSet (modelIn t s) (pick right (clauseAt (modelIn t s) c)) ≡ y
-      right-set = sym (isRight ∙ rw (isN, sets-are t s h, X-clause) (model-clause-set (modelIn t s) (pick right (clauseAt (modelIn t s) c))))
+      right-set = sym (isRight ∙ rw (isN, sets-are t s h, isB, X-clause) (model-clause-set (modelIn t s) (pick right (clauseAt (modelIn t s) c))))
 
       compared : (inside (clauseSet (modelIn t s) (pick left (clauseAt (modelIn t s) c))) (clauseSet (modelIn t s) (pick right (clauseAt (modelIn t s) c)))
           || inside (clauseSet (modelIn t s) (pick right (clauseAt (modelIn t s) c))) (clauseSet (modelIn t s) (pick left (clauseAt (modelIn t s) c)))) ≡ (p || q)
@@ -321,7 +368,6 @@ module _ (t : Tables) (s : State) (h : Holding t s) (c left right : ℕ) {f : Bo
           room true e = rw e (fork-25 tables (modelIn t s) c left right (known-is t s h c told known) covered-whole apart e)
           room false e = rw e (fork-accepted tables (modelIn t s) c left right (known-is t s h c told known) covered-whole apart e)
 
-      -- the same, from a copy of the clause
-      pub fork-added : p ≡ false → q ≡ false → {w : Set} → w ≡ common x y → {A : Clause} → A ≡ X
-          → K ≡ fitted (modelIn t s) (Two (pick left A ++ (pos (suc (s .variables .0)) ∷ [])) (pick right A ++ (negsuc (s .variables .0) ∷ [])) w)
-      fork-added u v isW isA = rw isA (fork-fitted u v isW)
+      pub fork-added : p ≡ false → q ≡ false → {w : Set} → w ≡ common x y
+          → K ≡ fitted (modelIn t s) (Two (A ++ (pos (suc (s .variables .0)) ∷ [])) (B ++ (negsuc (s .variables .0) ∷ [])) w)
+      fork-added u v isW = rw (isA, isB) (fork-fitted u v isW)

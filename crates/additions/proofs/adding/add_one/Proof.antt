@@ -8,7 +8,7 @@ use Rattle.additions.proofs.adding.add_one.Tie as tie
 use Rattle.additions.proofs.adding.add_one.Reads as reads
 use Rattle.additions.proofs.adding.add_one.Lts as lts
 use Rattle.additions.proofs.adding.refused.Reads as refused-reads
-use Rattle.clauses.proofs.parts.write_clause.Reads as write-clause-reads
+use Rattle.clauses.proofs.writing.write_clause.Reads as write-clause-reads
 use Rattle.tables.proofs.adding.add_clause.Reads as add-clause-reads
 use Rattle.tables.proofs.adding.is_full.Reads as is-full-reads
 

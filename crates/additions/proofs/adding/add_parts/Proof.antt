@@ -8,90 +8,81 @@ use Rattle.additions.proofs.adding.add_parts.Tie as tie
 use Rattle.additions.proofs.adding.add_parts.Reads as reads
 use Rattle.additions.proofs.adding.add_parts.Lts as lts
 use Rattle.additions.proofs.adding.refused.Reads as refused-reads
-use Rattle.clauses.proofs.parts.part_length.Reads as part-length-reads
-use Rattle.clauses.proofs.parts.write_fork.Reads as write-fork-reads
+use Rattle.clauses.proofs.writing.write_fork.Reads as write-fork-reads
 use Rattle.tables.proofs.adding.add_fork.Reads as add-fork-reads
 use Rattle.tables.proofs.adding.is_full.Reads as is-full-reads
 
--- src/adding.rt:101:17
-part-length-requires : tie.Need-part-length-requires
-part-length-requires c κs = search needs
-
--- src/adding.rt:101:17
+-- src/adding.rt:100:17
 add-first : tie.Need-add-first
 add-first c = search needs
 
--- src/adding.rt:102:18
-part-length-requires-2 : tie.Need-part-length-requires-2
-part-length-requires-2 c κs = search needs
-
--- src/adding.rt:102:18
+-- src/adding.rt:101:18
 add-second : tie.Need-add-second
 add-second c = search needs
 
--- src/adding.rt:103:35
+-- src/adding.rt:102:35
 add-is-full : tie.Need-add-is-full
 add-is-full c = search needs
 
--- src/adding.rt:103:34
+-- src/adding.rt:102:34
 cast-is-full : tie.Need-cast-is-full
 cast-is-full c = search needs
 
--- src/adding.rt:103:8
+-- src/adding.rt:102:8
 is-full-requires : tie.Need-is-full-requires
 is-full-requires c κs = search needs
 
--- src/adding.rt:104:9
+-- src/adding.rt:103:9
 refused-requires : tie.Need-refused-requires
 refused-requires c κs = search needs
 
--- src/adding.rt:104:9
+-- src/adding.rt:103:9
 returns : tie.Need-returns
-returns c = fork-full _ _ (c .before .before .before .before .before .before .before .before .pre .0) _ _ _ _ (c .before .before .before .before .part-length .ensures .0) (c .before .before .before .part-length2 .ensures .0) (c .before .before .is-full .ensures) (c .before .if1 .taken) (c .refused .ensures)
+returns c = fork-full _ _ (c .before .before .before .before .before .before .pre .0) (c .before .before .before .before .before .before .args .left .now) (c .before .before .before .before .before .before .args .right .now) (c .before .before .before .before .before .before .args .set) (c .before .before .is-full .ensures) (c .before .if1 .taken) (c .refused .ensures)
 
--- src/adding.rt:107:21
+-- src/adding.rt:106:21
 add-variable : tie.Need-add-variable
-add-variable c = omega (arith, fork-variable _ _ (c .before .before .before .before .before .before .before .before .before .pre .0) _ _ _ (c .before .before .before .before .before .before .before .before .before .args .set) (c .before .before .before .before .before .part-length .ensures .0) (c .before .before .before .before .part-length2 .ensures .0) (c .before .before .before .is-full .ensures) (c .before .before .if1 .left))
+add-variable c = omega (arith, fork-variable _ _ (c .before .before .before .before .before .before .before .pre .0) (c .before .before .before .before .before .before .before .args .left .now) (c .before .before .before .before .before .before .before .args .right .now) (c .before .before .before .before .before .before .before .args .set) (c .before .before .before .is-full .ensures) (c .before .before .if1 .left))
 
--- src/adding.rt:107:20
+-- src/adding.rt:106:20
 cast-variable : tie.Need-cast-variable
-cast-variable c = new-fits _ (fork-variable _ _ (c .before .before .before .before .before .before .before .before .before .pre .0) _ _ _ (c .before .before .before .before .before .before .before .before .before .args .set) (c .before .before .before .before .before .part-length .ensures .0) (c .before .before .before .before .part-length2 .ensures .0) (c .before .before .before .is-full .ensures) (c .before .before .if1 .left))
+cast-variable c = new-fits _ (fork-variable _ _ (c .before .before .before .before .before .before .before .pre .0) (c .before .before .before .before .before .before .before .args .left .now) (c .before .before .before .before .before .before .before .args .right .now) (c .before .before .before .before .before .before .before .args .set) (c .before .before .before .is-full .ensures) (c .before .before .if1 .left))
 
--- src/adding.rt:108:17
+-- src/adding.rt:107:17
 cast-place : tie.Need-cast-place
 cast-place c = search needs
 
--- src/adding.rt:109:23
+-- src/adding.rt:108:25
 mul-write-fork : tie.Need-mul-write-fork
 mul-write-fork c = search needs
 
--- src/adding.rt:109:23
+-- src/adding.rt:108:25
 sub-write-fork : tie.Need-sub-write-fork
-sub-write-fork c = omega (arith, fork-room _ _ (c .before .before .before .before .before .before .before .before .before .before .pre .0) _ _ _ (c .before .before .before .before .before .before .before .before .before .before .args .set) (c .before .before .before .before .before .before .part-length .ensures .0) (c .before .before .before .before .before .part-length2 .ensures .0) (c .before .before .before .before .is-full .ensures) (c .before .before .before .if1 .left))
+sub-write-fork c = omega (arith, fork-room _ _ (c .before .before .before .before .before .before .before .before .pre .0) (c .before .before .before .before .before .before .before .before .args .left .now) (c .before .before .before .before .before .before .before .before .args .right .now) (c .before .before .before .before .before .before .before .before .args .set) (c .before .before .before .before .is-full .ensures) (c .before .before .before .if1 .left))
 
--- src/adding.rt:109:23
+-- src/adding.rt:108:25
 part-write-fork-start : tie.Need-part-write-fork-start
-part-write-fork-start c = omega (arith, fork-room _ _ (c .before .before .before .before .before .before .before .before .before .before .pre .0) _ _ _ (c .before .before .before .before .before .before .before .before .before .before .args .set) (c .before .before .before .before .before .before .part-length .ensures .0) (c .before .before .before .before .before .part-length2 .ensures .0) (c .before .before .before .before .is-full .ensures) (c .before .before .before .if1 .left))
+part-write-fork-start c = omega (arith, fork-room _ _ (c .before .before .before .before .before .before .before .before .pre .0) (c .before .before .before .before .before .before .before .before .args .left .now) (c .before .before .before .before .before .before .before .before .args .right .now) (c .before .before .before .before .before .before .before .before .args .set) (c .before .before .before .before .is-full .ensures) (c .before .before .before .if1 .left))
 
--- src/adding.rt:109:23
+-- src/adding.rt:108:25
 part-write-fork-end : tie.Need-part-write-fork-end
 part-write-fork-end c = search needs
 
--- src/adding.rt:109:5
+-- src/adding.rt:108:5
 write-fork-requires : tie.Need-write-fork-requires
-write-fork-requires c κs = (simp (length-take, length-drop) (omega (arith, fork-room _ _ (c .before .before .before .before .before .before .before .before .before .before .before .pre .0) _ _ _ (c .before .before .before .before .before .before .before .before .before .before .before .args .set) (c .before .before .before .before .before .before .before .part-length .ensures .0) (c .before .before .before .before .before .before .part-length2 .ensures .0) (c .before .before .before .before .before .is-full .ensures) (c .before .before .before .before .if1 .left))), new-small _ (fork-variable _ _ (c .before .before .before .before .before .before .before .before .before .before .before .pre .0) _ _ _ (c .before .before .before .before .before .before .before .before .before .before .before .args .set) (c .before .before .before .before .before .before .before .part-length .ensures .0) (c .before .before .before .before .before .before .part-length2 .ensures .0) (c .before .before .before .before .before .is-full .ensures) (c .before .before .before .before .if1 .left)))
+write-fork-requires c κs = (simp (length-take, length-drop) (omega (arith, fork-room _ _ (c .before .before .before .before .before .before .before .before .before .pre .0) (c .before .before .before .before .before .before .before .before .before .args .left .now) (c .before .before .before .before .before .before .before .before .before .args .right .now) (c .before .before .before .before .before .before .before .before .before .args .set) (c .before .before .before .before .before .is-full .ensures) (c .before .before .before .before .if1 .left))), new-small _ (fork-variable _ _ (c .before .before .before .before .before .before .before .before .before .pre .0) (c .before .before .before .before .before .before .before .before .before .args .left .now) (c .before .before .before .before .before .before .before .before .before .args .right .now) (c .before .before .before .before .before .before .before .before .before .args .set) (c .before .before .before .before .before .is-full .ensures) (c .before .before .before .before .if1 .left)))
 
--- src/adding.rt:110:59
+-- src/adding.rt:109:59
 cast-add-fork : tie.Need-cast-add-fork
 cast-add-fork c = search needs
 
--- src/adding.rt:110:73
+-- src/adding.rt:109:73
 cast-add-fork-2 : tie.Need-cast-add-fork-2
 cast-add-fork-2 c = search needs
 
--- src/adding.rt:110:9
+-- src/adding.rt:109:9
 add-fork-requires : tie.Need-add-fork-requires
-add-fork-requires c κs = fork-asked _ _ (c .before .before .before .before .before .before .before .before .before .before .before .before .before .before .before .before .pre .0) _ _ _ (c .before .before .before .before .before .before .before .before .before .before .before .before .before .before .before .before .args .set) (c .before .before .before .before .before .before .before .before .before .before .before .before .part-length .ensures .0) (c .before .before .before .before .before .before .before .before .before .before .before .part-length2 .ensures .0) (c .before .before .before .before .before .before .before .before .before .before .is-full .ensures) (c .before .before .before .before .before .before .before .before .before .if1 .left)
+add-fork-requires c κs = fork-asked _ _ (c .before .before .before .before .before .before .before .before .before .before .before .before .before .before .pre .0) (c .before .before .before .before .before .before .before .before .before .before .before .before .before .before .args .left .now) (c .before .before .before .before .before .before .before .before .before .before .before .before .before .before .args .right .now) (c .before .before .before .before .before .before .before .before .before .before .before .before .before .before .args .set) (c .before .before .before .before .before .before .before .before .before .before .is-full .ensures) (c .before .before .before .before .before .before .before .before .before .if1 .left)
 
 -- src/adding.rt:84:1
 same-length : tie.Need-same-length
@@ -111,15 +102,13 @@ same-length-4 c = search needs
 
 -- src/adding.rt:84:1
 returns-2 : tie.Need-returns-2
-returns-2 c = fork-added _ _ (c .before .before .before .before .before .before .before .before .before .before .before .before .before .before .before .before .before .before .before .before .before .before .before .pre .0) _ _ _ (c .before .before .before .before .before .before .before .before .before .before .before .before .before .before .before .before .before .before .before .before .before .before .before .args .set) (c .before .before .before .before .before .before .before .before .before .before .before .before .before .before .before .before .before .before .before .part-length .ensures .0) (c .before .before .before .before .before .before .before .before .before .before .before .before .before .before .before .before .before .before .part-length2 .ensures .0) (c .before .before .before .before .before .before .before .before .before .before .before .before .before .before .before .before .before .is-full .ensures) (c .before .before .before .before .before .before .before .before .before .before .before .before .before .before .before .before .if1 .left) (c .before .before .before .before .before .before .before .before .before .before .before .write-fork .ensures .left) refl (c .before .before .before .before .before .before .add-fork .ensures .1) (c .before .before .before .before .before .before .add-fork .ensures .2) (c .before .before .before .before .before .before .add-fork .ensures .3) (c .before .before .before .before .before .before .add-fork .ensures .0)
+returns-2 c = fork-added _ _ (c .before .before .before .before .before .before .before .before .before .before .before .before .before .before .before .before .before .before .before .before .before .pre .0) (c .before .before .before .before .before .before .before .before .before .before .before .before .before .before .before .before .before .before .before .before .before .args .left .now) (c .before .before .before .before .before .before .before .before .before .before .before .before .before .before .before .before .before .before .before .before .before .args .right .now) (c .before .before .before .before .before .before .before .before .before .before .before .before .before .before .before .before .before .before .before .before .before .args .set) (c .before .before .before .before .before .before .before .before .before .before .before .before .before .before .before .before .before .is-full .ensures) (c .before .before .before .before .before .before .before .before .before .before .before .before .before .before .before .before .if1 .left) (c .before .before .before .before .before .before .before .before .before .before .before .write-fork .ensures .left) refl (c .before .before .before .before .before .before .add-fork .ensures .1) (c .before .before .before .before .before .before .add-fork .ensures .2) (c .before .before .before .before .before .before .add-fork .ensures .3) (c .before .before .before .before .before .before .add-fork .ensures .0)
 
 pub add-parts-spec : {M : Type 1} → statement M
 add-parts-spec =
     tie.close
     (tie.spec
-    part-length-requires
     add-first
-    part-length-requires-2
     add-second
     add-is-full
     cast-is-full

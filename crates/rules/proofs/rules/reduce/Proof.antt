@@ -1,23 +1,24 @@
 use borrow.Author.Needs.{needs}
-use mathlib.Core.Path.{_≡_, refl, sym, _∙_}
+use mathlib.Core.Path.{refl, sym}
 use native.Mathlib.Omega.{arith}
 use lib.Seq.{length-take-le}
 use mir.Facts.{toZ-ofZ}
 use Rattle.dqbf.proofs.Laws.Signed.{kept16}
 use Rattle.tables.proofs.Laws.Formed.{long-is, formed-is}
-use Rattle.clauses.proofs.Laws.Writing.{written-front, written-length, written-within}
-use Rattle.rules.proofs.Laws.Rules.{ranged, reduced-narrow, front-narrow, reduce-unknown, reduce-absent, reduce-other, reduce-read, reduce-added}
+use Rattle.clauses.proofs.Laws.Writing.{held-length, held-within}
+use Rattle.rules.proofs.Laws.Rules.{ranged, ranged-narrow, reduced-narrow, held-narrow, rest-in-use, reduce-unknown, reduce-absent, reduce-other, reduce-read, reduce-added}
 use Rattle.rules.proofs.rules.reduce.Statement.{statement}
 use Rattle.rules.proofs.rules.reduce.Tie as tie
 use Rattle.rules.proofs.rules.reduce.Reads as reads
 use Rattle.rules.proofs.rules.reduce.Lts as lts
 use Rattle.additions.proofs.adding.add_one.Reads as add-one-reads
 use Rattle.additions.proofs.adding.refused.Reads as refused-reads
-use Rattle.clauses.proofs.parts.write_without.Reads as write-without-reads
-use Rattle.clauses.proofs.sets.reads.Reads as reads-reads
+use Rattle.clauses.proofs.held.hold_without.Reads as hold-without-reads
+use Rattle.clauses.proofs.sets.clause_set.Reads as clause-set-reads
 use Rattle.clauses.proofs.tests.holds.Reads as holds-reads
 use Rattle.dqbf.proofs.literal.narrowed.Reads as narrowed-reads
 use Rattle.dqbf.proofs.literal.variable_of.Reads as variable-of-reads
+use Rattle.dqbf.proofs.sets.inside.Reads as inside-reads
 use Rattle.rules.proofs.clause.clause_at.Reads as clause-at-reads
 use Rattle.rules.proofs.clause.is_unknown.Reads as is-unknown-reads
 use Rattle.tables.proofs.entries.kind_of.Reads as kind-of-reads
@@ -71,8 +72,8 @@ variable-of-requires : tie.Need-variable-of-requires
 variable-of-requires c κs = search needs
 
 -- src/rules.rt:85:35
-cast-t24 : tie.Need-cast-t24
-cast-t24 c = search needs
+cast-t25 : tie.Need-cast-t25
+cast-t25 c = search needs
 
 -- src/rules.rt:86:8
 kind-of-requires : tie.Need-kind-of-requires
@@ -102,67 +103,71 @@ returns-3 c =
 set-of-requires : tie.Need-set-of-requires
 set-of-requires c κs = search needs
 
--- src/rules.rt:91:34
-slice-aggregate-write-without : tie.Need-slice-aggregate-write-without
-slice-aggregate-write-without c = search needs
+-- src/rules.rt:91:32
+slice-aggregate-hold-without : tie.Need-slice-aggregate-hold-without
+slice-aggregate-hold-without c = search needs
 
 -- src/rules.rt:91:9
-write-without-requires : tie.Need-write-without-requires
-write-without-requires c κs = reduced-narrow _ _ (c .before .before .before .before .before .before .before .before .before .before .before .before .before .before .before .before .pre) _ (c .before .before .before .before .before .before .before .before .before .before .before .before .is-unknown .ensures) (c .before .before .before .before .before .before .before .before .before .before .before .if1 .left) _ (c .before .before .before .before .before .before .before .clause-at .ensures) _
+hold-without-requires : tie.Need-hold-without-requires
+hold-without-requires c κs = ranged-narrow _ _ (c .before .before .before .before .before .before .before .before .before .before .before .before .before .before .before .before .pre) _ (c .before .before .before .before .before .before .before .before .before .before .before .before .is-unknown .ensures) (c .before .before .before .before .before .before .before .before .before .before .before .if1 .left) (c .before .before .before .before .before .before .before .clause-at .ensures)
 
 -- src/rules.rt:93:16
 cast-used : tie.Need-cast-used
 cast-used c = search needs
 
--- src/rules.rt:94:28
+-- src/rules.rt:94:41
 array-share-prefix-rest : tie.Need-array-share-prefix-rest
-array-share-prefix-rest c = written-within (c .before .before .before .write-without .ensures)
+array-share-prefix-rest c = held-within (c .before .before .before .hold-without .ensures)
 
--- src/rules.rt:94:28
-slice-aggregate-reads : tie.Need-slice-aggregate-reads
-slice-aggregate-reads c = written-length (c .before .before .before .before .write-without .ensures)
+-- src/rules.rt:94:41
+slice-aggregate-clause-set : tie.Need-slice-aggregate-clause-set
+slice-aggregate-clause-set c = held-length (c .before .before .before .before .hold-without .ensures)
 
--- src/rules.rt:94:45
-slice-aggregate-reads-2 : tie.Need-slice-aggregate-reads-2
-slice-aggregate-reads-2 c = sym (length-take-le _ (c .before .before .before .before .before .before .before .before .before .before .before .before .before .before .before .before .before .before .before .before .before .before .args .sets .now) (omega (arith, formed-is _ _ (c .before .before .before .before .before .before .before .before .before .before .before .before .before .before .before .before .before .before .before .before .before .before .pre .formed) .counts .variables, long-is _ (c .before .before .before .before .before .before .before .before .before .before .before .before .before .before .before .before .before .before .before .before .before .before .pre .lent) .sets)))
+-- src/rules.rt:94:53
+slice-aggregate-clause-set-2 : tie.Need-slice-aggregate-clause-set-2
+slice-aggregate-clause-set-2 c = sym (length-take-le _ (c .before .before .before .before .before .before .before .before .before .before .before .before .before .before .before .before .before .before .before .before .before .before .args .sets .now) (omega (arith, formed-is _ _ (c .before .before .before .before .before .before .before .before .before .before .before .before .before .before .before .before .before .before .before .before .before .before .pre .formed) .counts .variables, long-is _ (c .before .before .before .before .before .before .before .before .before .before .before .before .before .before .before .before .before .before .before .before .before .before .pre .lent) .sets)))
 
--- src/rules.rt:94:8
-reads-requires : tie.Need-reads-requires
-reads-requires c κs = search needs
+-- src/rules.rt:94:9
+clause-set-requires : tie.Need-clause-set-requires
+clause-set-requires c κs = rest-in-use _ _ (c .before .before .before .before .before .before .before .before .before .before .before .before .before .before .before .before .before .before .before .before .before .before .pre) _ (c .before .before .before .before .before .before .before .before .before .before .before .before .before .before .before .before .before .before .is-unknown .ensures) (c .before .before .before .before .before .before .before .before .before .before .before .before .before .before .before .before .before .if1 .left) (c .before .before .before .before .before .before .before .before .before .before .before .before .before .clause-at .ensures) _ (c .before .before .before .before .before .hold-without .ensures .front) refl
 
--- src/rules.rt:95:9
+-- src/rules.rt:95:8
+inside-requires : tie.Need-inside-requires
+inside-requires c κs = search needs
+
+-- src/rules.rt:96:9
 refused-requires-4 : tie.Need-refused-requires-4
 refused-requires-4 c κs = search needs
 
--- src/rules.rt:95:9
+-- src/rules.rt:96:9
 same-length-5 : tie.Need-same-length-5
 same-length-5 c = search needs
 
--- src/rules.rt:95:9
+-- src/rules.rt:96:9
 same-length-6 : tie.Need-same-length-6
 same-length-6 c = search needs
 
--- src/rules.rt:95:9
+-- src/rules.rt:96:9
 returns-4 : tie.Need-returns-4
 returns-4 c =
-    let p = rw (toZ-ofZ (c .before .before .before .before .before .before .before .before .before .before .before .before .before .before .before .before .before .before .before .before .before .before .before .before .before .fits .value)) at (c .before .before .before .before .before .before .before .before .before .before .before .before .before .before .before .before .before .before .before .narrowed .ensures) in
-    let a = rw (kept16 {z = c .before .before .before .before .before .before .before .before .before .before .before .before .before .before .before .before .before .before .before .narrowed .result} (c .before .before .before .before .before .before .before .before .before .before .before .before .before .before .before .before .before .before .before .narrowed .ok)) at (c .before .before .before .before .before .before .before .before .before .before .before .before .before .before .before .holds .ensures) in
-    let k = rw (c .before .before .before .before .before .before .before .before .before .before .before .before .before .variable-of .ensures, kept16 {z = c .before .before .before .before .before .before .before .before .before .before .before .before .before .before .before .before .before .before .before .narrowed .result} (c .before .before .before .before .before .before .before .before .before .before .before .before .before .before .before .before .before .before .before .narrowed .ok)) at (c .before .before .before .before .before .before .before .before .before .before .before .before .kind-of .ensures) in
-    let w = rw (c .before .before .before .before .before .before .before .before .before .before .before .before .before .variable-of .ensures, kept16 {z = c .before .before .before .before .before .before .before .before .before .before .before .before .before .before .before .before .before .before .before .narrowed .result} (c .before .before .before .before .before .before .before .before .before .before .before .before .before .before .before .before .before .before .before .narrowed .ok)) at (c .before .before .before .before .before .before .before .before .before .before .set-of .ensures) in
-    let e = written-front (rw (kept16 {z = c .before .before .before .before .before .before .before .before .before .before .before .before .before .before .before .before .before .before .before .narrowed .result} (c .before .before .before .before .before .before .before .before .before .before .before .before .before .before .before .before .before .before .before .narrowed .ok)) at (c .before .before .before .before .before .before .before .before .write-without .ensures)) in
-    reduce-read _ _ (c .before .before .before .before .before .before .before .before .before .before .before .before .before .before .before .before .before .before .before .before .before .before .before .before .before .pre) _ _ (c .before .before .before .before .before .before .before .before .before .before .before .before .before .before .before .before .before .before .before .before .before .is-unknown .ensures) (c .before .before .before .before .before .before .before .before .before .before .before .before .before .before .before .before .before .before .before .before .if1 .left) (c .before .before .before .before .before .before .before .before .before .before .before .before .before .before .before .before .clause-at .ensures) p a (c .before .before .before .before .before .before .before .before .before .before .before .before .before .before .if2 .left) k (c .before .before .before .before .before .before .before .before .before .before .before .if3 .left) w e refl (c .before .before .reads .ensures) (c .before .if4 .taken) (c .refused4 .ensures)
+    let p = rw (toZ-ofZ (c .before .before .before .before .before .before .before .before .before .before .before .before .before .before .before .before .before .before .before .before .before .before .before .before .before .before .fits .value)) at (c .before .before .before .before .before .before .before .before .before .before .before .before .before .before .before .before .before .before .before .before .narrowed .ensures) in
+    let a = rw (kept16 {z = c .before .before .before .before .before .before .before .before .before .before .before .before .before .before .before .before .before .before .before .before .narrowed .result} (c .before .before .before .before .before .before .before .before .before .before .before .before .before .before .before .before .before .before .before .before .narrowed .ok)) at (c .before .before .before .before .before .before .before .before .before .before .before .before .before .before .before .before .holds .ensures) in
+    let k = rw (c .before .before .before .before .before .before .before .before .before .before .before .before .before .before .variable-of .ensures, kept16 {z = c .before .before .before .before .before .before .before .before .before .before .before .before .before .before .before .before .before .before .before .before .narrowed .result} (c .before .before .before .before .before .before .before .before .before .before .before .before .before .before .before .before .before .before .before .before .narrowed .ok)) at (c .before .before .before .before .before .before .before .before .before .before .before .before .before .kind-of .ensures) in
+    let w = rw (c .before .before .before .before .before .before .before .before .before .before .before .before .before .before .variable-of .ensures, kept16 {z = c .before .before .before .before .before .before .before .before .before .before .before .before .before .before .before .before .before .before .before .before .narrowed .result} (c .before .before .before .before .before .before .before .before .before .before .before .before .before .before .before .before .before .before .before .before .narrowed .ok)) at (c .before .before .before .before .before .before .before .before .before .before .before .set-of .ensures) in
+    let e = (rw (kept16 {z = c .before .before .before .before .before .before .before .before .before .before .before .before .before .before .before .before .before .before .before .before .narrowed .result} (c .before .before .before .before .before .before .before .before .before .before .before .before .before .before .before .before .before .before .before .before .narrowed .ok)) at (c .before .before .before .before .before .before .before .before .before .hold-without .ensures)) .front in
+    reduce-read _ _ (c .before .before .before .before .before .before .before .before .before .before .before .before .before .before .before .before .before .before .before .before .before .before .before .before .before .before .pre) _ _ (c .before .before .before .before .before .before .before .before .before .before .before .before .before .before .before .before .before .before .before .before .before .before .is-unknown .ensures) (c .before .before .before .before .before .before .before .before .before .before .before .before .before .before .before .before .before .before .before .before .before .if1 .left) (c .before .before .before .before .before .before .before .before .before .before .before .before .before .before .before .before .before .clause-at .ensures) p a (c .before .before .before .before .before .before .before .before .before .before .before .before .before .before .before .if2 .left) k (c .before .before .before .before .before .before .before .before .before .before .before .before .if3 .left) w e refl (c .before .before .before .clause-set .ensures) (c .before .before .inside .ensures) (c .before .if4 .taken) (c .refused4 .ensures)
 
--- src/rules.rt:97:21
+-- src/rules.rt:98:21
 array-share-prefix-rest-2 : tie.Need-array-share-prefix-rest-2
-array-share-prefix-rest-2 c = written-within (c .before .before .before .before .before .before .before .write-without .ensures)
+array-share-prefix-rest-2 c = held-within (c .before .before .before .before .before .before .before .before .hold-without .ensures)
 
--- src/rules.rt:97:21
+-- src/rules.rt:98:21
 slice-aggregate-add-one : tie.Need-slice-aggregate-add-one
-slice-aggregate-add-one c = written-length (c .before .before .before .before .before .before .before .before .write-without .ensures)
+slice-aggregate-add-one c = held-length (c .before .before .before .before .before .before .before .before .before .hold-without .ensures)
 
--- src/rules.rt:97:5
+-- src/rules.rt:98:5
 add-one-requires : tie.Need-add-one-requires
-add-one-requires c κs = (c .before .before .before .before .before .before .before .before .before .before .before .before .before .before .before .before .before .before .before .before .before .before .before .before .before .before .before .pre, front-narrow (c .before .before .before .before .before .before .before .before .before .before .write-without .ensures) (reduced-narrow _ _ (c .before .before .before .before .before .before .before .before .before .before .before .before .before .before .before .before .before .before .before .before .before .before .before .before .before .before .before .pre) _ (c .before .before .before .before .before .before .before .before .before .before .before .before .before .before .before .before .before .before .before .before .before .before .before .is-unknown .ensures) (c .before .before .before .before .before .before .before .before .before .before .before .before .before .before .before .before .before .before .before .before .before .before .if1 .left) _ (c .before .before .before .before .before .before .before .before .before .before .before .before .before .before .before .before .before .before .clause-at .ensures) _))
+add-one-requires c κs = (c .before .before .before .before .before .before .before .before .before .before .before .before .before .before .before .before .before .before .before .before .before .before .before .before .before .before .before .before .pre, held-narrow (c .before .before .before .before .before .before .before .before .before .before .before .hold-without .ensures) (reduced-narrow _ _ (c .before .before .before .before .before .before .before .before .before .before .before .before .before .before .before .before .before .before .before .before .before .before .before .before .before .before .before .before .pre) _ (c .before .before .before .before .before .before .before .before .before .before .before .before .before .before .before .before .before .before .before .before .before .before .before .before .is-unknown .ensures) (c .before .before .before .before .before .before .before .before .before .before .before .before .before .before .before .before .before .before .before .before .before .before .before .if1 .left) _ (c .before .before .before .before .before .before .before .before .before .before .before .before .before .before .before .before .before .before .before .clause-at .ensures) _))
 
 -- src/rules.rt:62:1
 same-length-7 : tie.Need-same-length-7
@@ -175,12 +180,12 @@ same-length-8 c = search needs
 -- src/rules.rt:62:1
 returns-5 : tie.Need-returns-5
 returns-5 c =
-    let p = rw (toZ-ofZ (c .before .before .before .before .before .before .before .before .before .before .before .before .before .before .before .before .before .before .before .before .before .before .before .before .before .before .before .before .before .before .before .fits .value)) at (c .before .before .before .before .before .before .before .before .before .before .before .before .before .before .before .before .before .before .before .before .before .before .before .before .before .narrowed .ensures) in
-    let a = rw (kept16 {z = c .before .before .before .before .before .before .before .before .before .before .before .before .before .before .before .before .before .before .before .before .before .before .before .before .before .narrowed .result} (c .before .before .before .before .before .before .before .before .before .before .before .before .before .before .before .before .before .before .before .before .before .before .before .before .before .narrowed .ok)) at (c .before .before .before .before .before .before .before .before .before .before .before .before .before .before .before .before .before .before .before .before .before .holds .ensures) in
-    let k = rw (c .before .before .before .before .before .before .before .before .before .before .before .before .before .before .before .before .before .before .before .variable-of .ensures, kept16 {z = c .before .before .before .before .before .before .before .before .before .before .before .before .before .before .before .before .before .before .before .before .before .before .before .before .before .narrowed .result} (c .before .before .before .before .before .before .before .before .before .before .before .before .before .before .before .before .before .before .before .before .before .before .before .before .before .narrowed .ok)) at (c .before .before .before .before .before .before .before .before .before .before .before .before .before .before .before .before .before .before .kind-of .ensures) in
-    let w = rw (c .before .before .before .before .before .before .before .before .before .before .before .before .before .before .before .before .before .before .before .variable-of .ensures, kept16 {z = c .before .before .before .before .before .before .before .before .before .before .before .before .before .before .before .before .before .before .before .before .before .before .before .before .before .narrowed .result} (c .before .before .before .before .before .before .before .before .before .before .before .before .before .before .before .before .before .before .before .before .before .before .before .before .before .narrowed .ok)) at (c .before .before .before .before .before .before .before .before .before .before .before .before .before .before .before .before .set-of .ensures) in
-    let e = written-front (rw (kept16 {z = c .before .before .before .before .before .before .before .before .before .before .before .before .before .before .before .before .before .before .before .before .before .before .before .before .before .narrowed .result} (c .before .before .before .before .before .before .before .before .before .before .before .before .before .before .before .before .before .before .before .before .before .before .before .before .before .narrowed .ok)) at (c .before .before .before .before .before .before .before .before .before .before .before .before .before .before .write-without .ensures)) in
-    rw (reduce-added _ _ (c .before .before .before .before .before .before .before .before .before .before .before .before .before .before .before .before .before .before .before .before .before .before .before .before .before .before .before .before .before .before .before .pre) _ _ (c .before .before .before .before .before .before .before .before .before .before .before .before .before .before .before .before .before .before .before .before .before .before .before .before .before .before .before .is-unknown .ensures) (c .before .before .before .before .before .before .before .before .before .before .before .before .before .before .before .before .before .before .before .before .before .before .before .before .before .before .if1 .left) (c .before .before .before .before .before .before .before .before .before .before .before .before .before .before .before .before .before .before .before .before .before .before .clause-at .ensures) p a (c .before .before .before .before .before .before .before .before .before .before .before .before .before .before .before .before .before .before .before .before .if2 .left) k (c .before .before .before .before .before .before .before .before .before .before .before .before .before .before .before .before .before .if3 .left) w e refl (c .before .before .before .before .before .before .before .before .reads .ensures) (c .before .before .before .before .before .before .before .if4 .left)) (c .before .before .before .add-one .ensures)
+    let p = rw (toZ-ofZ (c .before .before .before .before .before .before .before .before .before .before .before .before .before .before .before .before .before .before .before .before .before .before .before .before .before .before .before .before .before .before .before .before .fits .value)) at (c .before .before .before .before .before .before .before .before .before .before .before .before .before .before .before .before .before .before .before .before .before .before .before .before .before .before .narrowed .ensures) in
+    let a = rw (kept16 {z = c .before .before .before .before .before .before .before .before .before .before .before .before .before .before .before .before .before .before .before .before .before .before .before .before .before .before .narrowed .result} (c .before .before .before .before .before .before .before .before .before .before .before .before .before .before .before .before .before .before .before .before .before .before .before .before .before .before .narrowed .ok)) at (c .before .before .before .before .before .before .before .before .before .before .before .before .before .before .before .before .before .before .before .before .before .before .holds .ensures) in
+    let k = rw (c .before .before .before .before .before .before .before .before .before .before .before .before .before .before .before .before .before .before .before .before .variable-of .ensures, kept16 {z = c .before .before .before .before .before .before .before .before .before .before .before .before .before .before .before .before .before .before .before .before .before .before .before .before .before .before .narrowed .result} (c .before .before .before .before .before .before .before .before .before .before .before .before .before .before .before .before .before .before .before .before .before .before .before .before .before .before .narrowed .ok)) at (c .before .before .before .before .before .before .before .before .before .before .before .before .before .before .before .before .before .before .before .kind-of .ensures) in
+    let w = rw (c .before .before .before .before .before .before .before .before .before .before .before .before .before .before .before .before .before .before .before .before .variable-of .ensures, kept16 {z = c .before .before .before .before .before .before .before .before .before .before .before .before .before .before .before .before .before .before .before .before .before .before .before .before .before .before .narrowed .result} (c .before .before .before .before .before .before .before .before .before .before .before .before .before .before .before .before .before .before .before .before .before .before .before .before .before .before .narrowed .ok)) at (c .before .before .before .before .before .before .before .before .before .before .before .before .before .before .before .before .before .set-of .ensures) in
+    let e = (rw (kept16 {z = c .before .before .before .before .before .before .before .before .before .before .before .before .before .before .before .before .before .before .before .before .before .before .before .before .before .before .narrowed .result} (c .before .before .before .before .before .before .before .before .before .before .before .before .before .before .before .before .before .before .before .before .before .before .before .before .before .before .narrowed .ok)) at (c .before .before .before .before .before .before .before .before .before .before .before .before .before .before .before .hold-without .ensures)) .front in
+    rw (reduce-added _ _ (c .before .before .before .before .before .before .before .before .before .before .before .before .before .before .before .before .before .before .before .before .before .before .before .before .before .before .before .before .before .before .before .before .pre) _ _ (c .before .before .before .before .before .before .before .before .before .before .before .before .before .before .before .before .before .before .before .before .before .before .before .before .before .before .before .before .is-unknown .ensures) (c .before .before .before .before .before .before .before .before .before .before .before .before .before .before .before .before .before .before .before .before .before .before .before .before .before .before .before .if1 .left) (c .before .before .before .before .before .before .before .before .before .before .before .before .before .before .before .before .before .before .before .before .before .before .before .clause-at .ensures) p a (c .before .before .before .before .before .before .before .before .before .before .before .before .before .before .before .before .before .before .before .before .before .if2 .left) k (c .before .before .before .before .before .before .before .before .before .before .before .before .before .before .before .before .before .before .if3 .left) w e refl (c .before .before .before .before .before .before .before .before .before .clause-set .ensures) (c .before .before .before .before .before .before .before .before .inside .ensures) (c .before .before .before .before .before .before .before .if4 .left)) (c .before .before .before .add-one .ensures)
 
 pub reduce-spec : {M : Type 1} → statement M
 reduce-spec =
@@ -197,20 +202,21 @@ reduce-spec =
     same-length-2
     returns-2
     variable-of-requires
-    cast-t24
+    cast-t25
     kind-of-requires
     refused-requires-3
     same-length-3
     same-length-4
     returns-3
     set-of-requires
-    slice-aggregate-write-without
-    write-without-requires
+    slice-aggregate-hold-without
+    hold-without-requires
     cast-used
     array-share-prefix-rest
-    slice-aggregate-reads
-    slice-aggregate-reads-2
-    reads-requires
+    slice-aggregate-clause-set
+    slice-aggregate-clause-set-2
+    clause-set-requires
+    inside-requires
     refused-requires-4
     same-length-5
     same-length-6
