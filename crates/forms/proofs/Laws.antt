@@ -7,4 +7,5 @@ pub mod Forms
 pub mod Shapes
 pub mod Insertion
 pub mod Sorting
+pub mod Rising
 pub mod Ranks
