@@ -117,33 +117,27 @@ fn declare_all(
     }
 }
 
-// Whether each of the variables is a universal.
-fn all_universal(variables: &[u32], kinds: &[u8]) -> bool
-    ensures { λ r. ⌜ r ≡ allOf (isUniversal (now (kinds .entry))) (now (variables .entry)) ⌝ }
-{
-    let mut i = 0;
-    while i < variables.len() {
-        let kind = entries::kind_of(kinds, VariableNumber(variables[i]));
-        if kind != 1 {
-            return false;
-        }
-        i += 1;
-    }
-    true
+// What the members of a set are: whether each is a universal, and the union of their sets.
+pub struct Members {
+    pub universal: bool,
+    pub union: u64,
 }
 
-// The union of the sets of the variables.
-fn union_of(variables: &[u32], sets: &[u64]) -> u64
-    ensures { λ r. ⌜ r ≡ unionOf (now (sets .entry)) (now (variables .entry)) ⌝ }
+// The members of a `d` line's set.
+fn members_of(variables: &[u32], sets: &[u64], kinds: &[u8]) -> Members
+    ensures { λ r. ⌜ (r .universal ≡ allOf (isUniversal (now (kinds .entry))) (now (variables .entry))) × (r .union ≡ unionOf (now (sets .entry)) (now (variables .entry))) ⌝ }
 {
+    let mut universal = true;
     let mut union = 0;
     let mut i = variables.len();
     while i > 0 {
         i -= 1;
+        let kind = entries::kind_of(kinds, VariableNumber(variables[i]));
+        universal = (kind == 1) & universal;
         let set = entries::set_of(sets, VariableNumber(variables[i]));
         union = dqbf::sets::union(set, union);
     }
-    union
+    Members { universal, union }
 }
 
 // An `e` line.
@@ -190,14 +184,14 @@ pub fn dependent_line(
     let state = progress.state;
     let bound = state.bound;
     let end = bound.0 as usize;
-    if !all_universal(&numbers[1..], &kinds[..end]) {
+    let members = members_of(&numbers[1..], &sets[..end], &kinds[..end]);
+    if !members.universal {
         return LineAnswer {
             progress,
             refusal: refusal::VARIABLE,
         };
     }
-    let set = union_of(&numbers[1..], &sets[..end]);
-    if !declare(numbers[0], bound.0, 2, set, sets, kinds) {
+    if !declare(numbers[0], bound.0, 2, members.union, sets, kinds) {
         return LineAnswer {
             progress,
             refusal: refusal::VARIABLE,
