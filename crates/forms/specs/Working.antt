@@ -1,15 +1,15 @@
 -- Working definitions: the calculus' definitions (dqbf, specs/Text.antt and specs/Reading.antt) in the shape that the loops walk.
 -- Each says which official definition it is proved equal to; the proofs are in proofs/Laws/Bridge.antt and proofs/Laws/Pieces.antt.
--- Offers `lengthBefore`, `leading`, `words`, `wordsOf`, `digitsFrom`, `plusOne`, `orZero`, `rankOf`, `entryOf`, `keyword`, `after`, `headerShape`, `Cut`, `Gathered`, `Listing`.
+-- Offers `lengthBefore`, `leading`, `words`, `wordsOf`, `digitsFrom`, `plusOne`, `rankOf`, `entryOf`, `tokenFrom`, `listFrom`, `keyword`, `after`, `headerShape`, `Cut`, `Gathered`, `Listing`.
 use mathlib.Core.Path.{_≡_}
-use mathlib.Core.Bool.{Bool, true, false, cond}
+use mathlib.Core.Bool.{Bool, true, false, cond, _&&_}
 use mathlib.Core.List.{List, [], _∷_}
 use mathlib.Core.Option.{Option, none, some}
-use Prim.Native.Nat.{ℕ, suc, _+_, _-_, _≤_, _<_}
-use lib.Dec.{eqb, ltb}
+use Prim.Native.Nat.{ℕ, suc, _+_, _-_, _*_, _≤_, _<_}
+use lib.Dec.{eqb, leb, ltb}
 use lib.ListN.{length, take, drop}
 use Rattle.dqbf.specs.Literal.{rank}
-use Rattle.dqbf.specs.Text.{space, pieces, isEmpty, allDigits, valueFrom, variableOf, literalOf}
+use Rattle.dqbf.specs.Text.{space, minus, pieces, isEmpty, allDigits, valueFrom, variableOf, literalOf, prepend}
 use Rattle.forms.specs.declared.text.Token.{Token}
 use Rattle.forms.specs.declared.form.Gathering.{Gathering}
 use Rattle.forms.specs.declared.form.Gathering.the-variants.{Count, Open}
@@ -72,11 +72,6 @@ unfoldable pub plusOne : Option ℕ → ℕ
 plusOne none = 0
 plusOne (some n) = n + 1
 
--- the same for a number that is not 0
-unfoldable pub orZero : Option ℕ → ℕ
-orZero none = 0
-orZero (some n) = n
-
 unfoldable pub each : {A B : Type 0} → (A → B) → Option A → Option B
 each f none = none
 each f (some a) = some (f a)
@@ -88,6 +83,37 @@ rankOf w = each rank (literalOf w)
 -- `closed (entryOf false)` is `closed variableOf`, and `closed (entryOf true)` has the ranks of `closed literalOf`.
 unfoldable pub entryOf : Bool → List ℕ → Option ℕ
 entryOf signed w = cond signed (rankOf w) (variableOf w)
+
+-- ---- lists, byte by byte
+
+-- What a byte of a list finds: the number v that the digits of its token make so far, 0 where there is none yet, and n, 1 behind a minus.
+unfoldable pub isDigit : ℕ → Bool
+isDigit b = leb 48 b && leb b 57
+
+-- the minus of a literal
+unfoldable pub mayLead : Bool → ℕ → ℕ → ℕ → Bool
+mayLead signed v n b = signed && (eqb b minus && (eqb v 0 && eqb n 0))
+
+unfoldable pub ranked : Bool → ℕ → ℕ → ℕ
+ranked signed v n = cond signed (2 * v + n) v
+
+-- the rest of a token: `tokenFrom signed 0 0` is `entryOf signed`
+unfoldable pub tokenFrom : Bool → ℕ → ℕ → List ℕ → Option ℕ
+tokenFrom signed v n [] = cond (eqb v 0) none (some (ranked signed v n))
+tokenFrom signed v n (b ∷ bs) =
+    cond (isDigit b)
+    (cond (eqb (v * 10 + (b - 48)) 0) none (cond (ltb (v * 10 + (b - 48)) 100000) (tokenFrom signed (v * 10 + (b - 48)) n bs) none))
+    (cond (mayLead signed v n b) (tokenFrom signed v 1 bs) none)
+
+-- the rest of a list before its closing 0: `listFrom signed 0 0` is `closed (entryOf signed)` of the words
+unfoldable pub listFrom : Bool → ℕ → ℕ → List ℕ → Option (List ℕ)
+listFrom signed v n [] = none
+listFrom signed v n (b ∷ bs) =
+    cond (isDigit b)
+    (cond (eqb (v * 10 + (b - 48)) 0) (cond (eqb n 0 && isNil bs) (some []) none)
+    (cond (ltb (v * 10 + (b - 48)) 100000) (listFrom signed (v * 10 + (b - 48)) n bs) none))
+    (cond (eqb b space) (cond (eqb v 0) (cond (eqb n 0) (listFrom signed v n bs) none) (prepend (some (ranked signed v n)) (listFrom signed 0 0 bs)))
+    (cond (mayLead signed v n b) (listFrom signed v 1 bs) none))
 
 -- ---- answers
 

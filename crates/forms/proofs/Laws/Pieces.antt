@@ -116,7 +116,7 @@ pieces-more s (b ∷ bs) h = go (eqb b s) h (pieces-more s bs)
     go true e r = refl
     go false e r = rw (r (le-of-suc-le-suc e))
 
-pieces-some : (s : ℕ) (l : List ℕ) → isNil (pieces s l) ≡ false
+pub pieces-some : (s : ℕ) (l : List ℕ) → isNil (pieces s l) ≡ false
 unfolding pieces onto isNil
 pieces-some s [] = refl
 pieces-some s (b ∷ bs) = go (eqb b s) (pieces s bs)
@@ -187,15 +187,16 @@ module _ (text : List ℕ) (at r : ℕ) (inside : at ≤ length text) (length-is
 
 -- ---- words
 
+pub some-words : (ps : List (List ℕ)) → isNil ps ≡ false → isNil (words ps) ≡ false
+unfolding words isNil isEmpty
+some-words [] h = h
+some-words (w ∷ []) h = refl
+some-words ([] ∷ v ∷ vs) h = some-words (v ∷ vs) refl
+some-words ((b ∷ bs) ∷ v ∷ vs) h = refl
+
 pub words-some : (l : List ℕ) → isNil (wordsOf l) ≡ false
-unfolding wordsOf words isNil isEmpty
-words-some l = go (pieces space l) (pieces-some space l)
-  where
-    go : (ps : List (List ℕ)) → isNil ps ≡ false → isNil (words ps) ≡ false
-    go [] h = h
-    go (w ∷ []) h = refl
-    go ([] ∷ v ∷ vs) h = go (v ∷ vs) refl
-    go ((b ∷ bs) ∷ v ∷ vs) h = refl
+unfolding wordsOf
+words-some l = some-words (pieces space l) (pieces-some space l)
 
 words-leading : (l : List ℕ) → wordsOf (drop (leading space l) l) ≡ wordsOf l
 unfolding wordsOf words pieces leading isEmpty
