@@ -1,6 +1,6 @@
 -- Working definitions: the calculus' definitions (dqbf, specs/Text.antt and specs/Reading.antt) in the shape that the loops walk.
 -- Each says which official definition it is proved equal to; the proofs are in proofs/Laws/Bridge.antt and proofs/Laws/Pieces.antt.
--- Offers `lengthBefore`, `leading`, `words`, `wordsOf`, `digitsFrom`, `plusOne`, `rankOf`, `entryOf`, `tokenFrom`, `listFrom`, `keyword`, `after`, `headerShape`, `Cut`, `Gathered`, `Listing`.
+-- Offers `lengthBefore`, `leading`, `words`, `wordsOf`, `digitsFrom`, `plusOne`, `rankOf`, `entryOf`, `isDigit`, `mayLead`, `ranked`, `keyword`, `after`, `headerShape`, `Cut`, `Gathered`, `Listing`.
 use mathlib.Core.Path.{_≡_}
 use mathlib.Core.Bool.{Bool, true, false, cond, _&&_}
 use mathlib.Core.List.{List, [], _∷_}
@@ -9,7 +9,7 @@ use Prim.Native.Nat.{ℕ, suc, _+_, _-_, _*_, _≤_, _<_}
 use lib.Dec.{eqb, leb, ltb}
 use lib.ListN.{length, take, drop}
 use Rattle.dqbf.specs.Literal.{rank}
-use Rattle.dqbf.specs.Text.{space, minus, pieces, isEmpty, allDigits, valueFrom, variableOf, literalOf, prepend}
+use Rattle.dqbf.specs.Text.{space, minus, pieces, isEmpty, allDigits, valueFrom, variableOf, literalOf}
 use Rattle.forms.specs.declared.text.Token.{Token}
 use Rattle.forms.specs.declared.form.Gathering.{Gathering}
 use Rattle.forms.specs.declared.form.Gathering.the-variants.{Count, Open}
@@ -84,9 +84,8 @@ rankOf w = each rank (literalOf w)
 unfoldable pub entryOf : Bool → List ℕ → Option ℕ
 entryOf signed w = cond signed (rankOf w) (variableOf w)
 
--- ---- lists, byte by byte
+-- ---- the bytes of a list: v is the number that the digits of a token make so far, 0 where there is none yet, and n is 1 behind a minus
 
--- What a byte of a list finds: the number v that the digits of its token make so far, 0 where there is none yet, and n, 1 behind a minus.
 unfoldable pub isDigit : ℕ → Bool
 isDigit b = leb 48 b && leb b 57
 
@@ -94,26 +93,9 @@ isDigit b = leb 48 b && leb b 57
 unfoldable pub mayLead : Bool → ℕ → ℕ → ℕ → Bool
 mayLead signed v n b = signed && (eqb b minus && (eqb v 0 && eqb n 0))
 
+-- the variable, or where signs may stand the rank of the literal
 unfoldable pub ranked : Bool → ℕ → ℕ → ℕ
 ranked signed v n = cond signed (2 * v + n) v
-
--- the rest of a token: `tokenFrom signed 0 0` is `entryOf signed`
-unfoldable pub tokenFrom : Bool → ℕ → ℕ → List ℕ → Option ℕ
-tokenFrom signed v n [] = cond (eqb v 0) none (some (ranked signed v n))
-tokenFrom signed v n (b ∷ bs) =
-    cond (isDigit b)
-    (cond (eqb (v * 10 + (b - 48)) 0) none (cond (ltb (v * 10 + (b - 48)) 100000) (tokenFrom signed (v * 10 + (b - 48)) n bs) none))
-    (cond (mayLead signed v n b) (tokenFrom signed v 1 bs) none)
-
--- the rest of a list before its closing 0: `listFrom signed 0 0` is `closed (entryOf signed)` of the words
-unfoldable pub listFrom : Bool → ℕ → ℕ → List ℕ → Option (List ℕ)
-listFrom signed v n [] = none
-listFrom signed v n (b ∷ bs) =
-    cond (isDigit b)
-    (cond (eqb (v * 10 + (b - 48)) 0) (cond (eqb n 0 && isNil bs) (some []) none)
-    (cond (ltb (v * 10 + (b - 48)) 100000) (listFrom signed (v * 10 + (b - 48)) n bs) none))
-    (cond (eqb b space) (cond (eqb v 0) (cond (eqb n 0) (listFrom signed v n bs) none) (prepend (some (ranked signed v n)) (listFrom signed 0 0 bs)))
-    (cond (mayLead signed v n b) (listFrom signed v 1 bs) none))
 
 -- ---- answers
 

@@ -4,7 +4,7 @@ use mathlib.Core.Bool.{Bool, true, false, cond, not, _&&_, _||_, true≢false, a
 use mathlib.Core.List.{List, [], _∷_}
 use mathlib.Core.Option.{Option, none, some}
 use Prim.Native.Nat.{ℕ, zero, suc, _+_, _-_, _*_, _^_, _≤_, _<_}
-use native.Mathlib.Nat.{suc-ne-zero, pow-suc}
+use native.Mathlib.Nat.{pow-suc}
 use native.Mathlib.Numerals.{add-one}
 use native.Mathlib.Omega.{arith}
 use lib.Dec.{leb, eqb, ltb}
@@ -15,10 +15,42 @@ use Rattle.dqbf.specs.Limits.{digitLimit}
 use Rattle.dqbf.specs.Literal.{rank}
 use Rattle.dqbf.specs.Text.{space, minus, onto, pieces, isEmpty, allDigits, valueFrom, numberOf, notZero, variableOf, literalOf, isZero, prepend, closed}
 use Rattle.dqbf.proofs.Laws.Tests.{and-left, and-right}
-use Rattle.forms.specs.Working.{isNil, words, wordsOf, each, rankOf, entryOf, isDigit, mayLead, ranked, tokenFrom, listFrom}
+use Rattle.forms.specs.Working.{isNil, words, wordsOf, each, rankOf, entryOf, isDigit, mayLead, ranked}
 use Rattle.forms.proofs.Laws.Numbers.{ten-more, ten-le}
 use Rattle.forms.proofs.Laws.Pieces.{pieces-some, some-words}
 use Rattle.forms.proofs.Laws.Bridge.{closed-none, closed-last, closed-more}
+
+-- ---- what the bytes of a list come to, behind a number v and a minus n
+
+-- the rest of a token: `tokenFrom signed 0 0` is `entryOf signed`
+unfoldable tokenFrom : Bool → ℕ → ℕ → List ℕ → Option ℕ
+tokenFrom signed v n [] = cond (eqb v 0) none (some (ranked signed v n))
+tokenFrom signed v n (b ∷ bs) =
+    cond (isDigit b)
+    (cond (eqb (v * 10 + (b - 48)) 0) none (cond (ltb (v * 10 + (b - 48)) 100000) (tokenFrom signed (v * 10 + (b - 48)) n bs) none))
+    (cond (mayLead signed v n b) (tokenFrom signed v 1 bs) none)
+
+-- the rest of a list before its closing 0: `listFrom signed 0 0` is `closed (entryOf signed)` of the words
+unfoldable pub listFrom : Bool → ℕ → ℕ → List ℕ → Option (List ℕ)
+listFrom signed v n [] = none
+listFrom signed v n (b ∷ bs) =
+    cond (isDigit b)
+    (cond (eqb (v * 10 + (b - 48)) 0) (cond (eqb n 0 && isNil bs) (some []) none)
+    (cond (ltb (v * 10 + (b - 48)) 100000) (listFrom signed (v * 10 + (b - 48)) n bs) none))
+    (cond (eqb b space) (cond (eqb v 0) (cond (eqb n 0) (listFrom signed v n bs) none) (prepend (some (ranked signed v n)) (listFrom signed 0 0 bs)))
+    (cond (mayLead signed v n b) (listFrom signed v 1 bs) none))
+
+-- ---- tests in a row
+
+in-none : (a b : Bool) → (a && (b && false)) ≡ false
+in-none true true = refl
+in-none true false = refl
+in-none false b = refl
+
+in-two : (a b c : Bool) → (a && b) ≡ false → (a && (b && c)) ≡ false
+in-two true true c h = absurd (true≢false h)
+in-two true false c h = refl
+in-two false b c h = refl
 
 -- ---- digits
 
@@ -26,14 +58,14 @@ pub digit-low : (b : ℕ) → isDigit b ≡ true → 48 ≤ b
 unfolding isDigit
 digit-low b h = leb-true 48 b (and-left (leb 48 b) (leb b 57) h)
 
+pub digit-high : (b : ℕ) → isDigit b ≡ true → b ≤ 57
+unfolding isDigit
+digit-high b h = leb-true b 57 (and-right (leb 48 b) (leb b 57) h)
+
 value-grows : (v : ℕ) (w : List ℕ) → v ≤ valueFrom v w
 unfolding valueFrom
 value-grows v [] = omega arith
 value-grows v (b ∷ bs) = omega (arith, value-grows (v * 10 + (b - 48)) bs)
-
-pub digit-high : (b : ℕ) → isDigit b ≡ true → b ≤ 57
-unfolding isDigit
-digit-high b h = leb-true b 57 (and-right (leb 48 b) (leb b 57) h)
 
 digits-nil : allDigits [] ≡ true
 unfolding allDigits
@@ -50,12 +82,7 @@ ten-low j v d h = rw (add-one, pow-suc 10 j) (omega arith)
 
 no-lead : (signed : Bool) (v n b : ℕ) → 0 < v → mayLead signed v n b ≡ false
 unfolding mayLead
-no-lead signed v n b h = rw (ne-eqb v 0 (λ z. omega arith)) (go signed (eqb b minus))
-  where
-    go : (s t : Bool) → (s && (t && false)) ≡ false
-    go true true = refl
-    go true false = refl
-    go false t = refl
+no-lead signed v n b h = rw (ne-eqb v 0 (λ z. omega arith)) (in-none signed (eqb b minus))
 
 -- j digits make v
 begun : (signed : Bool) (n : ℕ) (w : List ℕ) (v j : ℕ) → j < 5 → 10 ^ j ≤ v → v < 10 ^ (j + 1)
@@ -140,13 +167,7 @@ fresh signed n (b ∷ bs) lead = fresh-cons signed n b bs (lead b)
 
 no-second : (signed : Bool) (v n b : ℕ) → 0 < n → mayLead signed v n b ≡ false
 unfolding mayLead
-no-second signed v n b h = rw (ne-eqb n 0 (λ z. omega arith)) (go signed (eqb b minus) (eqb v 0))
-  where
-    go : (s t u : Bool) → (s && (t && (u && false))) ≡ false
-    go true true true = refl
-    go true true false = refl
-    go true false u = refl
-    go false t u = refl
+no-second signed v n b h = rw (ne-eqb n 0 (λ z. omega arith), and-false (eqb v 0)) (in-none signed (eqb b minus))
 
 unsigned-none : (v n b : ℕ) → mayLead false v n b ≡ false
 unfolding mayLead
@@ -190,18 +211,6 @@ token-entry : (signed : Bool) (w : List ℕ) → tokenFrom signed 0 0 w ≡ entr
 unfolding entryOf
 token-entry true w = rank-token w
 token-entry false w = variable-token w
-
--- ---- tests in a row
-
-in-none : (a b : Bool) → (a && (b && false)) ≡ false
-in-none true true = refl
-in-none true false = refl
-in-none false b = refl
-
-in-two : (a b c : Bool) → (a && b) ≡ false → (a && (b && c)) ≡ false
-in-two true true c h = absurd (true≢false h)
-in-two true false c h = refl
-in-two false b c h = refl
 
 -- ---- a list is its pieces
 

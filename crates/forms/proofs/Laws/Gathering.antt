@@ -1,6 +1,6 @@
 -- A list of numbers read from the front and written to a slice: one law for each answer of `gather`.
-use mathlib.Core.Path.{_≡_, refl, sym, ap, _∙_}
-use mathlib.Core.Bool.{Bool, true, false, _&&_, and-false}
+use mathlib.Core.Path.{_≡_, refl, ap, _∙_}
+use mathlib.Core.Bool.{Bool, true, false, and-false}
 use mathlib.Core.List.{List, [], _∷_, _++_, append-nil}
 use mathlib.Core.Option.{Option, none, some}
 use Prim.Native.Nat.{ℕ, _+_, _-_, _*_, _≤_, _<_}
@@ -11,9 +11,9 @@ use lib.ListN.{length, take, drop, getD, set, drop-of-length-le}
 use lib.Seq.{drop-cons, length-take-le, take-suc-set, append-snoc}
 use borrow.Author.Tests.{eq-eqb, ne-eqb, lt-ltb, le-ltb}
 use Rattle.dqbf.specs.Text.{space, prepend, closed}
-use Rattle.forms.specs.Working.{isNil, wordsOf, entryOf, isDigit, mayLead, ranked, listFrom, entries, countOf, Gathered}
+use Rattle.forms.specs.Working.{isNil, wordsOf, entryOf, isDigit, mayLead, ranked, entries, countOf, Gathered}
 use Rattle.forms.specs.declared.form.Gathering.the-variants.{Count, Open}
-use Rattle.forms.proofs.Laws.Bytewise.{list-is}
+use Rattle.forms.proofs.Laws.Bytewise.{listFrom, list-is}
 
 -- what was gathered, in front of what is still to be read
 unfoldable pub behind : List ℕ → Option (List ℕ) → Option (List ℕ)

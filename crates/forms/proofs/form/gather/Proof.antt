@@ -4,8 +4,8 @@ use native.Mathlib.Omega.{arith}
 use borrow.Author.Needs.{needs}
 use lib.ListN.{length, take, drop, length-set}
 use Rattle.dqbf.specs.Text.{closed}
-use Rattle.forms.specs.Working.{wordsOf, entryOf, listFrom}
-use Rattle.forms.proofs.Laws.Bytewise.{digit-low, digit-high}
+use Rattle.forms.specs.Working.{wordsOf, entryOf}
+use Rattle.forms.proofs.Laws.Bytewise.{listFrom, digit-low, digit-high}
 use Rattle.forms.proofs.Laws.Gathering.{behind, gather-none, gather-end, gather-done, gather-early, gather-minus-zero, gather-long, gather-digit, gather-entry, gather-lone, gather-skip, gather-lead, gather-bad}
 use Rattle.forms.proofs.form.gather.Statement.{statement}
 use Rattle.forms.proofs.form.gather.Tie as tie
