@@ -62,10 +62,7 @@ fn declare_one(
     if universal {
         let set = 1u64 << (state.universals as u32);
         if !declare(variable, bound.0, 1, set, sets, kinds) {
-            return LineAnswer {
-                progress,
-                refusal: refusal::VARIABLE,
-            };
+            return progress::refused(progress, refusal::VARIABLE);
         }
         let next = progress::add_universal(progress, set);
         return LineAnswer {
@@ -74,10 +71,7 @@ fn declare_one(
         };
     }
     if !declare(variable, bound.0, 4, 0, sets, kinds) {
-        return LineAnswer {
-            progress,
-            refusal: refusal::VARIABLE,
-        };
+        return progress::refused(progress, refusal::VARIABLE);
     }
     LineAnswer {
         progress,
@@ -154,10 +148,7 @@ pub fn existential_line(
         → LineRead t reader (eLine (now (variables .entry))) r (tablesOf literals ends (now (sets .exit)) (now (kinds .exit)))) ⌝ }
 {
     if progress.phase != progress::PREFIX_LINES {
-        return LineAnswer {
-            progress,
-            refusal: refusal::NO_FORM,
-        };
+        return progress::refused(progress, refusal::NO_FORM);
     }
     declare_all(variables, false, progress, sets, kinds)
 }
@@ -176,26 +167,17 @@ pub fn dependent_line(
         → LineRead t reader (dLine (getD (now (numbers .entry)) 0 0) (drop 1 (now (numbers .entry)))) r (tablesOf literals ends (now (sets .exit)) (now (kinds .exit)))) ⌝ }
 {
     if progress.phase != progress::PREFIX_LINES {
-        return LineAnswer {
-            progress,
-            refusal: refusal::NO_FORM,
-        };
+        return progress::refused(progress, refusal::NO_FORM);
     }
     let state = progress.state;
     let bound = state.bound;
     let end = bound.0 as usize;
     let members = members_of(&numbers[1..], &sets[..end], &kinds[..end]);
     if !members.universal {
-        return LineAnswer {
-            progress,
-            refusal: refusal::VARIABLE,
-        };
+        return progress::refused(progress, refusal::VARIABLE);
     }
     if !declare(numbers[0], bound.0, 2, members.union, sets, kinds) {
-        return LineAnswer {
-            progress,
-            refusal: refusal::VARIABLE,
-        };
+        return progress::refused(progress, refusal::VARIABLE);
     }
     LineAnswer {
         progress,
@@ -219,25 +201,16 @@ pub fn universal_line(
         × (r .refusal ≡ 0 → Known (taken reader (aLine (now (variables .entry)))) (now (known .exit)))) ⌝ }
 {
     if progress.phase != progress::PREFIX_LINES {
-        return LineAnswer {
-            progress,
-            refusal: refusal::NO_FORM,
-        };
+        return progress::refused(progress, refusal::NO_FORM);
     }
     let state = progress.state;
     let before = state.universals as usize;
     let count = order::insert_all(variables, variables.len(), known, before, 64);
     if count > 64 {
-        return LineAnswer {
-            progress,
-            refusal: refusal::OVER_LIMIT,
-        };
+        return progress::refused(progress, refusal::OVER_LIMIT);
     }
     if count - before != variables.len() {
-        return LineAnswer {
-            progress,
-            refusal: refusal::VARIABLE,
-        };
+        return progress::refused(progress, refusal::VARIABLE);
     }
     declare_all(variables, true, progress, sets, kinds)
 }
