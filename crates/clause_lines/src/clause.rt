@@ -80,46 +80,28 @@ pub fn clause_line(
         → LineRead t reader (clauseLine C) r (tablesOf (now (literals .exit)) (now (ends .exit)) sets (now (kinds .entry)))) ⌝ }
 {
     if progress.phase == progress::OPENING {
-        return LineAnswer {
-            progress,
-            refusal: refusal::NO_FORM,
-        };
+        return progress::refused(progress, refusal::NO_FORM);
     }
     let mut sorted = [0u32; 33];
     let width = order::insert_all(ranks, ranks.len(), &mut sorted, 0, 32);
     if width > 32 {
-        return LineAnswer {
-            progress,
-            refusal: refusal::OVER_LIMIT,
-        };
+        return progress::refused(progress, refusal::OVER_LIMIT);
     }
     let state = progress.state;
     if state.literals as usize + width > 8192 {
-        return LineAnswer {
-            progress,
-            refusal: refusal::OVER_LIMIT,
-        };
+        return progress::refused(progress, refusal::OVER_LIMIT);
     }
     let bound = state.bound;
     let end = bound.0 as usize;
     if !all_declared(&sorted[..width], &kinds[..end]) {
-        return LineAnswer {
-            progress,
-            refusal: refusal::VARIABLE,
-        };
+        return progress::refused(progress, refusal::VARIABLE);
     }
     if literals::has_pair(&sorted, width) {
-        return LineAnswer {
-            progress,
-            refusal: refusal::COMPLEMENTARY,
-        };
+        return progress::refused(progress, refusal::COMPLEMENTARY);
     }
     let clauses = state.clauses;
     if clauses.0 >= progress.count {
-        return LineAnswer {
-            progress,
-            refusal: refusal::CLAUSE_COUNT,
-        };
+        return progress::refused(progress, refusal::CLAUSE_COUNT);
     }
     let next = add_formula_clause(&sorted, width, progress, literals, ends);
     LineAnswer {

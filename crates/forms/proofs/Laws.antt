@@ -2,9 +2,11 @@
 pub mod Pieces
 pub mod Numbers
 pub mod Bridge
+pub mod Bytewise
 pub mod Gathering
 pub mod Forms
 pub mod Shapes
 pub mod Insertion
 pub mod Sorting
+pub mod Rising
 pub mod Ranks

@@ -1,15 +1,15 @@
 -- Working definitions: the calculus' definitions (dqbf, specs/Text.antt and specs/Reading.antt) in the shape that the loops walk.
 -- Each says which official definition it is proved equal to; the proofs are in proofs/Laws/Bridge.antt and proofs/Laws/Pieces.antt.
--- Offers `lengthBefore`, `leading`, `words`, `wordsOf`, `digitsFrom`, `plusOne`, `orZero`, `rankOf`, `entryOf`, `keyword`, `after`, `headerShape`, `Cut`, `Gathered`, `Listing`.
+-- Offers `lengthBefore`, `leading`, `words`, `wordsOf`, `digitsFrom`, `plusOne`, `rankOf`, `entryOf`, `isDigit`, `mayLead`, `ranked`, `keyword`, `after`, `headerShape`, `Cut`, `Gathered`, `Listing`.
 use mathlib.Core.Path.{_≡_}
-use mathlib.Core.Bool.{Bool, true, false, cond}
+use mathlib.Core.Bool.{Bool, true, false, cond, _&&_}
 use mathlib.Core.List.{List, [], _∷_}
 use mathlib.Core.Option.{Option, none, some}
-use Prim.Native.Nat.{ℕ, suc, _+_, _-_, _≤_, _<_}
-use lib.Dec.{eqb, ltb}
+use Prim.Native.Nat.{ℕ, suc, _+_, _-_, _*_, _≤_, _<_}
+use lib.Dec.{eqb, leb, ltb}
 use lib.ListN.{length, take, drop}
 use Rattle.dqbf.specs.Literal.{rank}
-use Rattle.dqbf.specs.Text.{space, pieces, isEmpty, allDigits, valueFrom, variableOf, literalOf}
+use Rattle.dqbf.specs.Text.{space, minus, pieces, isEmpty, allDigits, valueFrom, variableOf, literalOf}
 use Rattle.forms.specs.declared.text.Token.{Token}
 use Rattle.forms.specs.declared.form.Gathering.{Gathering}
 use Rattle.forms.specs.declared.form.Gathering.the-variants.{Count, Open}
@@ -72,11 +72,6 @@ unfoldable pub plusOne : Option ℕ → ℕ
 plusOne none = 0
 plusOne (some n) = n + 1
 
--- the same for a number that is not 0
-unfoldable pub orZero : Option ℕ → ℕ
-orZero none = 0
-orZero (some n) = n
-
 unfoldable pub each : {A B : Type 0} → (A → B) → Option A → Option B
 each f none = none
 each f (some a) = some (f a)
@@ -88,6 +83,19 @@ rankOf w = each rank (literalOf w)
 -- `closed (entryOf false)` is `closed variableOf`, and `closed (entryOf true)` has the ranks of `closed literalOf`.
 unfoldable pub entryOf : Bool → List ℕ → Option ℕ
 entryOf signed w = cond signed (rankOf w) (variableOf w)
+
+-- ---- the bytes of a list: v is the number that the digits of a token make so far, 0 where there is none yet, and n is 1 behind a minus
+
+unfoldable pub isDigit : ℕ → Bool
+isDigit b = leb 48 b && leb b 57
+
+-- the minus of a literal
+unfoldable pub mayLead : Bool → ℕ → ℕ → ℕ → Bool
+mayLead signed v n b = signed && (eqb b minus && (eqb v 0 && eqb n 0))
+
+-- the variable, or where signs may stand the rank of the literal
+unfoldable pub ranked : Bool → ℕ → ℕ → ℕ
+ranked signed v n = cond signed (2 * v + n) v
 
 -- ---- answers
 

@@ -1,13 +1,13 @@
 // The form of a line.
 ghost use mathlib.Core.Path.{_≡_};
 ghost use mathlib.Core.Option.{some};
-ghost use Prim.Native.Nat.{_≤_, _*_};
+ghost use Prim.Native.Nat.{_≤_, _<_, _*_};
 ghost use lib.ListN.{length, drop};
 ghost use Rattle.dqbf.specs.Bytes.{bytes, sameBytes};
 ghost use Rattle.dqbf.specs.Text.{closed, literalOf, variableOf};
 ghost use Rattle.dqbf.specs.Reading.{headerForm, clauseForm, tokensForm, formOf};
 ghost use Rattle.forms.specs.Shapes.{shapeOf, Formed};
-ghost use Rattle.forms.specs.Working.{orZero, keyword, wordsOf, after, entryOf, headerShape, Gathered, Listing};
+ghost use Rattle.forms.specs.Working.{keyword, wordsOf, after, entryOf, mayLead, ranked, headerShape, Gathered, Listing};
 
 // The form of a line; a list of numbers with how many it has.
 pub enum Shape {
@@ -26,42 +26,66 @@ pub enum Gathering {
     Open,
 }
 
+// Whether a byte is the minus of a literal: none of its digits, and no minus, stand before it.
+fn leads(signed: bool, value: u32, minus: u32, b: u8) -> bool
+    ensures { λ r. ⌜ r ≡ mayLead signed value minus b ⌝ }
+{
+    signed & ((b == 45) & ((value == 0) & (minus == 0)))
+}
+
+// The variable, or where signs may stand the rank of the literal; `minus` is 1 behind a minus.
+fn entry(signed: bool, value: u32, minus: u32) -> u32
+    requires { ⌜ (value < 100000) × (minus ≤ 1) ⌝ }
+    ensures { λ r. ⌜ r ≡ ranked signed value minus ⌝ }
+{
+    if signed {
+        return 2 * value + minus;
+    }
+    value
+}
+
 // The variables, or where signs may stand the ranks of the literals, that a line lists from i on before its closing 0.
+// `value` is the number that the digits of a token make so far, 0 between two tokens.
 fn gather(line: &[u8], i: usize, signed: bool, numbers: &mut [u32]) -> Gathering
     requires { ⌜ (i ≤ length (now line)) × (length (now line) ≤ 2 * length (now numbers)) ⌝ }
     ensures { λ r. ⌜ Gathered (closed (entryOf signed) (wordsOf (drop i (now (line .entry))))) r (now (numbers .exit)) ⌝ }
 {
     let mut at = i;
     let mut n = 0;
-    loop {
-        let t = crate::text::next_token(line, at);
-        let f = t.from;
-        let e = t.to;
-        let w = &line[f..e];
-        if e == line.len() {
-            if crate::number::is_zero(w) {
-                return Gathering::Count(n);
+    let mut value: u32 = 0;
+    let mut minus: u32 = 0;
+    while at < line.len() {
+        let b = line[at];
+        at += 1;
+        if crate::number::is_digit(b) {
+            value = value * 10 + crate::number::wide(b - 48);
+            if value == 0 {
+                if minus == 0 {
+                    if at == line.len() {
+                        return Gathering::Count(n);
+                    }
+                }
+                return Gathering::Open;
             }
+            if value >= 100000 {
+                return Gathering::Open;
+            }
+        } else if b == 32 {
+            if value != 0 {
+                numbers[n] = entry(signed, value, minus);
+                n += 1;
+                value = 0;
+                minus = 0;
+            } else if minus != 0 {
+                return Gathering::Open;
+            }
+        } else if leads(signed, value, minus, b) {
+            minus = 1;
+        } else {
             return Gathering::Open;
         }
-        let x = entry(w, signed);
-        if x == 0 {
-            return Gathering::Open;
-        }
-        numbers[n] = x;
-        n += 1;
-        at = e + 1;
     }
-}
-
-// The number that a token of a list stands for, or 0 where it stands for none.
-fn entry(token: &[u8], signed: bool) -> u32
-    ensures { λ r. ⌜ r ≡ orZero (entryOf signed (now (token .entry))) ⌝ }
-{
-    if signed {
-        return crate::number::literal_rank(token);
-    }
-    crate::number::variable(token)
+    Gathering::Open
 }
 
 // The byte of a token that is one byte long, and 0 for any other.

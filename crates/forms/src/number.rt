@@ -1,15 +1,21 @@
-// Tokens as numbers, variables and literals. A function here answers 0 where a token is none.
+// Tokens as numbers. A function here answers 0 where a token is none.
 ghost use mathlib.Core.Path.{_≡_};
-ghost use Prim.Native.Nat.{_+_, _*_, _^_, _≤_};
+ghost use Prim.Native.Nat.{_^_, _≤_};
 ghost use lib.ListN.{length};
 ghost use Rattle.dqbf.specs.Limits.{digitLimit};
-ghost use Rattle.dqbf.specs.Text.{numberOf, variableOf, isZero};
-ghost use Rattle.forms.specs.Working.{plusOne, orZero, digitsFrom, rankOf};
+ghost use Rattle.dqbf.specs.Text.{numberOf};
+ghost use Rattle.forms.specs.Working.{plusOne, digitsFrom, isDigit};
 
-fn wide(b: u8) -> u32
+pub fn wide(b: u8) -> u32
     ensures { λ r. ⌜ r ≡ b ⌝ }
 {
     b as u32
+}
+
+pub fn is_digit(b: u8) -> bool
+    ensures { λ r. ⌜ r ≡ isDigit b ⌝ }
+{
+    (48 <= b) & (b <= 57)
 }
 
 // One more than the number that digits make, or 0 where a byte is no digit.
@@ -50,46 +56,4 @@ pub fn number(token: &[u8]) -> u32
         return 0;
     }
     digits_value(token)
-}
-
-// The variable that a token is.
-pub fn variable(token: &[u8]) -> u32
-    ensures { λ r. ⌜ r ≡ orZero (variableOf (now (token .entry))) ⌝ }
-{
-    let n = number(token);
-    if n == 0 {
-        return 0;
-    }
-    n - 1
-}
-
-// The rank of the literal that a token is.
-pub fn literal_rank(token: &[u8]) -> u32
-    ensures { λ r. ⌜ r ≡ orZero (rankOf (now (token .entry))) ⌝ }
-{
-    if token.len() == 0 {
-        return 0;
-    }
-    if token[0] == 45 {
-        let n = number(&token[1..]);
-        if n <= 1 {
-            return 0;
-        }
-        return 2 * (n - 1) + 1;
-    }
-    let n = number(token);
-    if n == 0 {
-        return 0;
-    }
-    2 * (n - 1)
-}
-
-// Whether a token is the closing 0.
-pub fn is_zero(token: &[u8]) -> bool
-    ensures { λ r. ⌜ r ≡ isZero (now (token .entry)) ⌝ }
-{
-    if token.len() != 1 {
-        return false;
-    }
-    token[0] == 48
 }

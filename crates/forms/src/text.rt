@@ -1,7 +1,8 @@
 // Lines and tokens.
 ghost use mathlib.Core.Path.{_≡_};
-ghost use Prim.Native.Nat.{_≤_};
-ghost use lib.ListN.{length};
+ghost use mathlib.Core.Bool.{false};
+ghost use Prim.Native.Nat.{_+_, _≤_};
+ghost use lib.ListN.{length, drop};
 ghost use Rattle.dqbf.specs.Text.{space};
 ghost use Rattle.forms.specs.Shapes.{lineLength};
 ghost use Rattle.forms.specs.Working.{lengthBefore, leading, Cut};
@@ -20,11 +21,41 @@ fn length_before(bytes: &[u8], b: u8) -> usize
     i
 }
 
+// Whether the byte b is one of the sixteen from i on: each is looked at, so that the processor compares them at once.
+fn block_has(bytes: &[u8], i: usize, b: u8) -> bool
+    requires { ⌜ i + 16 ≤ length (now bytes) ⌝ }
+    ensures { λ r. ⌜ (r ≡ false → lengthBefore b (drop i (now (bytes .entry))) ≡ 16 + lengthBefore b (drop (i + 16) (now (bytes .entry)))) ⌝ }
+{
+    let mut found = false;
+    let mut k = 0;
+    while k < 16 {
+        let at = i + k;
+        found = found | (bytes[at] == b);
+        k += 1;
+    }
+    found
+}
+
+// How many bytes stand in the blocks of sixteen before the first one that has the byte b.
+fn blocks_before(bytes: &[u8], b: u8) -> usize
+    ensures { λ r. ⌜ (r ≤ length (now (bytes .entry))) × (lengthBefore b (now (bytes .entry)) ≡ r + lengthBefore b (drop r (now (bytes .entry)))) ⌝ }
+{
+    let mut i = 0;
+    while bytes.len() - i >= 16 {
+        if block_has(bytes, i, b) {
+            return i;
+        }
+        i += 16;
+    }
+    i
+}
+
 // The length of the first line of a text, up to its line feed; of the whole text where there is none.
 pub fn line_length(text: &[u8]) -> usize
     ensures { λ r. ⌜ r ≡ lineLength (now (text .entry)) ⌝ }
 {
-    length_before(text, 10)
+    let passed = blocks_before(text, 10);
+    passed + length_before(&text[passed..], 10)
 }
 
 // How many spaces lead.

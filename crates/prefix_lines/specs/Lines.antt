@@ -1,6 +1,7 @@
 -- The lines read so far, as the code carries them: a reader of the calculus (dqbf, specs/Reading.antt) that the tables and a `Progress` by value hold.
 --     phaseNumber, progressOf        a reader by value
 --     refusalOf                      a number of refusal, 0 for none, as the first test that applies
+--     refusedLine                    the answer for a line that is refused
 --     ReadSoFar, Known, Framed, LineRead     what the tables hold between two lines, and behind a line
 --     Within, clauseAdded            the counts
 --     onLine, universalAdded, DeclaredAll     variables of an `a` or an `e` line declared one after the other
@@ -65,6 +66,9 @@ pub record LineRead (t : Tables) (r : Reader) (f : Form) (a : LineAnswer) (now :
   pub told : first (lineTests r f) ≡ refusalOf (a .refusal)
   pub held : a .refusal ≡ 0 → ReadSoFar t (taken r f) (a .progress) now
   pub framed : Framed t now
+
+abbrev pub refusedLine : Progress → ℕ → LineAnswer
+refusedLine p number = record { progress = p; refusal = number }
 
 -- the counts are within the limits
 pub record Within (p : Progress) : Type 0 where

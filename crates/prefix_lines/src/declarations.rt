@@ -62,10 +62,7 @@ fn declare_one(
     if universal {
         let set = 1u64 << (state.universals as u32);
         if !declare(variable, bound.0, 1, set, sets, kinds) {
-            return LineAnswer {
-                progress,
-                refusal: refusal::VARIABLE,
-            };
+            return progress::refused(progress, refusal::VARIABLE);
         }
         let next = progress::add_universal(progress, set);
         return LineAnswer {
@@ -74,10 +71,7 @@ fn declare_one(
         };
     }
     if !declare(variable, bound.0, 4, 0, sets, kinds) {
-        return LineAnswer {
-            progress,
-            refusal: refusal::VARIABLE,
-        };
+        return progress::refused(progress, refusal::VARIABLE);
     }
     LineAnswer {
         progress,
@@ -117,33 +111,27 @@ fn declare_all(
     }
 }
 
-// Whether each of the variables is a universal.
-fn all_universal(variables: &[u32], kinds: &[u8]) -> bool
-    ensures { λ r. ⌜ r ≡ allOf (isUniversal (now (kinds .entry))) (now (variables .entry)) ⌝ }
-{
-    let mut i = 0;
-    while i < variables.len() {
-        let kind = entries::kind_of(kinds, VariableNumber(variables[i]));
-        if kind != 1 {
-            return false;
-        }
-        i += 1;
-    }
-    true
+// What the members of a set are: whether each is a universal, and the union of their sets.
+pub struct Members {
+    pub universal: bool,
+    pub union: u64,
 }
 
-// The union of the sets of the variables.
-fn union_of(variables: &[u32], sets: &[u64]) -> u64
-    ensures { λ r. ⌜ r ≡ unionOf (now (sets .entry)) (now (variables .entry)) ⌝ }
+// The members of a `d` line's set.
+fn members_of(variables: &[u32], sets: &[u64], kinds: &[u8]) -> Members
+    ensures { λ r. ⌜ (r .universal ≡ allOf (isUniversal (now (kinds .entry))) (now (variables .entry))) × (r .union ≡ unionOf (now (sets .entry)) (now (variables .entry))) ⌝ }
 {
+    let mut universal = true;
     let mut union = 0;
     let mut i = variables.len();
     while i > 0 {
         i -= 1;
+        let kind = entries::kind_of(kinds, VariableNumber(variables[i]));
+        universal = (kind == 1) & universal;
         let set = entries::set_of(sets, VariableNumber(variables[i]));
         union = dqbf::sets::union(set, union);
     }
-    union
+    Members { universal, union }
 }
 
 // An `e` line.
@@ -160,10 +148,7 @@ pub fn existential_line(
         → LineRead t reader (eLine (now (variables .entry))) r (tablesOf literals ends (now (sets .exit)) (now (kinds .exit)))) ⌝ }
 {
     if progress.phase != progress::PREFIX_LINES {
-        return LineAnswer {
-            progress,
-            refusal: refusal::NO_FORM,
-        };
+        return progress::refused(progress, refusal::NO_FORM);
     }
     declare_all(variables, false, progress, sets, kinds)
 }
@@ -182,26 +167,17 @@ pub fn dependent_line(
         → LineRead t reader (dLine (getD (now (numbers .entry)) 0 0) (drop 1 (now (numbers .entry)))) r (tablesOf literals ends (now (sets .exit)) (now (kinds .exit)))) ⌝ }
 {
     if progress.phase != progress::PREFIX_LINES {
-        return LineAnswer {
-            progress,
-            refusal: refusal::NO_FORM,
-        };
+        return progress::refused(progress, refusal::NO_FORM);
     }
     let state = progress.state;
     let bound = state.bound;
     let end = bound.0 as usize;
-    if !all_universal(&numbers[1..], &kinds[..end]) {
-        return LineAnswer {
-            progress,
-            refusal: refusal::VARIABLE,
-        };
+    let members = members_of(&numbers[1..], &sets[..end], &kinds[..end]);
+    if !members.universal {
+        return progress::refused(progress, refusal::VARIABLE);
     }
-    let set = union_of(&numbers[1..], &sets[..end]);
-    if !declare(numbers[0], bound.0, 2, set, sets, kinds) {
-        return LineAnswer {
-            progress,
-            refusal: refusal::VARIABLE,
-        };
+    if !declare(numbers[0], bound.0, 2, members.union, sets, kinds) {
+        return progress::refused(progress, refusal::VARIABLE);
     }
     LineAnswer {
         progress,
@@ -225,25 +201,16 @@ pub fn universal_line(
         × (r .refusal ≡ 0 → Known (taken reader (aLine (now (variables .entry)))) (now (known .exit)))) ⌝ }
 {
     if progress.phase != progress::PREFIX_LINES {
-        return LineAnswer {
-            progress,
-            refusal: refusal::NO_FORM,
-        };
+        return progress::refused(progress, refusal::NO_FORM);
     }
     let state = progress.state;
     let before = state.universals as usize;
     let count = order::insert_all(variables, variables.len(), known, before, 64);
     if count > 64 {
-        return LineAnswer {
-            progress,
-            refusal: refusal::OVER_LIMIT,
-        };
+        return progress::refused(progress, refusal::OVER_LIMIT);
     }
     if count - before != variables.len() {
-        return LineAnswer {
-            progress,
-            refusal: refusal::VARIABLE,
-        };
+        return progress::refused(progress, refusal::VARIABLE);
     }
     declare_all(variables, true, progress, sets, kinds)
 }

@@ -2,7 +2,7 @@
 ghost use mathlib.Core.Path.{_≡_};
 ghost use Prim.Native.Nat.{_<_};
 ghost use Rattle.dqbf.specs.Limits.{universalLimit};
-ghost use Rattle.prefix_lines.specs.Lines.{universalAdded};
+ghost use Rattle.prefix_lines.specs.Lines.{refusedLine, universalAdded};
 use tables::State;
 
 pub struct Progress {
@@ -25,6 +25,16 @@ pub const CLAUSE_LINES: u8 = 2;
 pub struct LineAnswer {
     pub progress: Progress,
     pub refusal: u32,
+}
+
+// A line that is refused with a number.
+pub fn refused(progress: Progress, number: u32) -> LineAnswer
+    ensures { λ r. ⌜ r ≡ refusedLine progress number ⌝ }
+{
+    LineAnswer {
+        progress,
+        refusal: number,
+    }
 }
 
 // One universal more, with its set.

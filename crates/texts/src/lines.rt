@@ -40,10 +40,7 @@ fn comment_line(progress: Progress) -> LineAnswer
     ensures { λ r. ⌜ ((t : Tables) (reader : Reader) (held : Tables) → ReadSoFar t reader progress held → LineRead t reader comment r held) ⌝ }
 {
     if progress.phase != progress::OPENING {
-        return LineAnswer {
-            progress,
-            refusal: refusal::NO_FORM,
-        };
+        return progress::refused(progress, refusal::NO_FORM);
     }
     LineAnswer {
         progress,
@@ -55,22 +52,13 @@ fn header_line(bound: u32, count: u32, progress: Progress) -> LineAnswer
     ensures { λ r. ⌜ ((t : Tables) (reader : Reader) (held : Tables) → ReadSoFar t reader progress held → LineRead t reader (header bound count) r held) ⌝ }
 {
     if progress.phase != progress::OPENING {
-        return LineAnswer {
-            progress,
-            refusal: refusal::NO_FORM,
-        };
+        return progress::refused(progress, refusal::NO_FORM);
     }
     if bound > 512 {
-        return LineAnswer {
-            progress,
-            refusal: refusal::OVER_LIMIT,
-        };
+        return progress::refused(progress, refusal::OVER_LIMIT);
     }
     if count > 2048 {
-        return LineAnswer {
-            progress,
-            refusal: refusal::OVER_LIMIT,
-        };
+        return progress::refused(progress, refusal::OVER_LIMIT);
     }
     let state = empty_state(bound);
     let next = Progress {
@@ -122,9 +110,6 @@ pub fn read_line(
         ),
         Shape::Dependent(n) => declarations::dependent_line(&numbers[..n], progress, sets, kinds),
         Shape::Clause(n) => clause::clause_line(&numbers[..n], progress, literals, ends, kinds),
-        Shape::Malformed => LineAnswer {
-            progress,
-            refusal: refusal::NO_FORM,
-        },
+        Shape::Malformed => progress::refused(progress, refusal::NO_FORM),
     }
 }

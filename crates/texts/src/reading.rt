@@ -10,7 +10,7 @@ ghost use Rattle.tables.specs.Tables.{Tables, tablesOf};
 ghost use Rattle.tables.specs.Spread.{spread, blank};
 ghost use Rattle.tables.specs.WellFormed.{long};
 ghost use Rattle.prefix_lines.specs.Lines.{ReadSoFar};
-ghost use Rattle.texts.specs.Texts.{TextRead};
+ghost use Rattle.texts.specs.Texts.{startProgress, TextRead};
 use super::lines;
 use forms::text;
 use prefix_lines::progress;
@@ -22,6 +22,19 @@ pub struct TextAnswer {
     pub progress: Progress,
     pub line: u32,
     pub refusal: u32,
+}
+
+// Before the first line.
+fn start_of_text() -> Progress
+    ensures { λ r. ⌜ r ≡ startProgress ⌝ }
+{
+    let state = lines::empty_state(0);
+    Progress {
+        phase: progress::OPENING,
+        count: 0,
+        places: 0,
+        state,
+    }
 }
 
 // The end of a text of so many lines: a missing header is told one line behind the last, too few clauses at the last line.
@@ -67,13 +80,7 @@ pub fn read_lines(
 {
     let mut numbers = [0u32; 16384];
     let mut known = [0u32; 65];
-    let state = lines::empty_state(0);
-    let mut progress = Progress {
-        phase: progress::OPENING,
-        count: 0,
-        places: 0,
-        state,
-    };
+    let mut progress = start_of_text();
     let mut line: u32 = 0;
     let mut at = 0;
     while at < text.len() {

@@ -118,6 +118,10 @@ form-words (b ∷ bs) n k h = rw (ne-eqb b 99 k, ne-eqb b space h) (go (pieces s
 
 -- ---- lists before the closing 0
 
+pub closed-none : {A : Type 0} (read : List ℕ → Option A) → none ≡ closed read []
+unfolding closed
+closed-none read = refl
+
 pub closed-last : {A : Type 0} (read : List ℕ → Option A) (w : List ℕ) → closed read (w ∷ []) ≡ cond (isZero w) (some []) none
 unfolding closed
 closed-last read w = refl

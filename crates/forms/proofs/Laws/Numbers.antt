@@ -1,22 +1,19 @@
--- Tokens as numbers, variables and ranks: one law for each answer of the functions of `number`.
-use mathlib.Core.Path.{_≡_, refl, sym, _∙_}
+-- Tokens as numbers: one law for each answer of the functions of `number`.
+use mathlib.Core.Path.{_≡_, refl, _∙_}
 use mathlib.Core.Bool.{Bool, true, false, cond, not, _&&_, _||_}
 use mathlib.Core.List.{List, [], _∷_}
 use mathlib.Core.Option.{Option, none, some}
-use Prim.Native.Nat.{ℕ, zero, suc, _+_, _-_, _*_, _^_, _≤_, _<_}
-use native.Mathlib.Nat.{not-suc-le-zero, suc-ne-zero, suc-inj, le-of-suc-le-suc, pow-suc, pow-le-pow-right}
+use Prim.Native.Nat.{ℕ, suc, _+_, _-_, _*_, _^_, _≤_, _<_}
+use native.Mathlib.Nat.{not-suc-le-zero, suc-ne-zero, le-of-suc-le-suc, pow-suc, pow-le-pow-right}
 use native.Mathlib.Numerals.{add-one}
 use native.Mathlib.Omega.{arith}
 use lib.Dec.{leb, eqb, lit<}
-use lib.IntN.{pos, negsuc}
-use lib.ListN.{length, take, drop, getD, drop-of-length-le}
+use lib.ListN.{length, drop, getD, drop-of-length-le}
 use lib.Seq.{drop-cons}
 use borrow.Author.Tests.{eq-eqb, ne-eqb, le-leb, lt-leb}
 use Rattle.dqbf.specs.Limits.{digitLimit}
-use Rattle.dqbf.specs.Literal.{rank}
-use Rattle.dqbf.specs.Text.{minus, isEmpty, allDigits, valueFrom, numberOf, notZero, variableOf, literalOf, isZero}
-use Rattle.dqbf.proofs.Laws.Parts.{tail-lent}
-use Rattle.forms.specs.Working.{digitsFrom, plusOne, orZero, each, rankOf, entryOf}
+use Rattle.dqbf.specs.Text.{isEmpty, allDigits, valueFrom, numberOf}
+use Rattle.forms.specs.Working.{digitsFrom}
 
 -- ---- digits
 
@@ -84,95 +81,3 @@ unfolding isEmpty
 number-zero [] n k l = absurd (n refl)
 number-zero (b ∷ []) n k l = number-is b [] ∙ rw (eq-eqb b 48 k)
 number-zero (b ∷ d ∷ ds) n k l = absurd (not-suc-le-zero (le-of-suc-le-suc l))
-
--- ---- a token as a variable: r is one more than its number
-
-zero-variable : (o : Option ℕ) (r : ℕ) → r ≡ plusOne o → orZero (notZero suc o) ≡ r - 1
-unfolding plusOne orZero notZero
-zero-variable none r h = omega arith
-zero-variable (some zero) r h = omega arith
-zero-variable (some (suc n)) r h = omega arith
-
-pub variable-is : (w : List ℕ) (r : ℕ) → r ≡ plusOne (numberOf w) → orZero (variableOf w) ≡ r - 1
-unfolding variableOf
-variable-is w r h = zero-variable (numberOf w) r h
-
--- ---- a token as a literal's rank
-
-minus-rank : (o : Option ℕ) (r : ℕ) → r ≡ plusOne o → (r ≤ 1 → orZero (each rank (notZero negsuc o)) ≡ 0) × (1 < r → orZero (each rank (notZero negsuc o)) ≡ 2 * (r - 1) + 1)
-unfolding plusOne orZero each notZero rank
-minus-rank none r h = ((λ k. refl), (λ k. absurd (omega arith)))
-minus-rank (some zero) r h = ((λ k. refl), (λ k. absurd (omega arith)))
-minus-rank (some (suc n)) r h = ((λ k. absurd (omega arith)), (λ k. omega arith))
-
-plain-rank : (o : Option ℕ) (r : ℕ) → r ≡ plusOne o → orZero (each rank (notZero (λ k. pos (suc k)) o)) ≡ 2 * (r - 1)
-unfolding plusOne orZero each notZero rank
-plain-rank none r h = omega arith
-plain-rank (some zero) r h = omega arith
-plain-rank (some (suc n)) r h = omega arith
-
-pub rank-empty : (w : List ℕ) → length w ≡ 0 → orZero (rankOf w) ≡ 0
-unfolding rankOf literalOf each orZero
-rank-empty [] h = refl
-rank-empty (b ∷ bs) h = absurd (suc-ne-zero _ h)
-
-module _ (w : List ℕ) (some : length w ≡ 0 → ⊥) (signed : getD w 0 0 ≡ minus) (r : ℕ) (number : r ≡ plusOne (numberOf (take (length w - 1) (drop 1 w)))) where
-  rank-signed : (w : List ℕ) → (length w ≡ 0 → ⊥) → getD w 0 0 ≡ minus → rankOf w ≡ each rank (notZero negsuc (numberOf (drop 1 w)))
-  unfolding rankOf literalOf
-  rank-signed [] n h = absurd (n refl)
-  rank-signed (b ∷ bs) n h = rw (eq-eqb b minus h)
-
-  pub rank-minus-none : r ≤ 1 → orZero (rankOf w) ≡ 0
-  rank-minus-none k = rw (rank-signed w some signed) (minus-rank (numberOf (drop 1 w)) r (rw (tail-lent w 1) at number) .0 k)
-
-  pub rank-minus : 1 < r → orZero (rankOf w) ≡ 2 * (r - 1) + 1
-  rank-minus k = rw (rank-signed w some signed) (minus-rank (numberOf (drop 1 w)) r (rw (tail-lent w 1) at number) .1 k)
-
-pub rank-plain : (w : List ℕ) (r : ℕ) → (length w ≡ 0 → ⊥) → (getD w 0 0 ≡ minus → ⊥) → r ≡ plusOne (numberOf w) → orZero (rankOf w) ≡ 2 * (r - 1)
-unfolding rankOf literalOf
-rank-plain [] r n h e = absurd (n refl)
-rank-plain (b ∷ bs) r n h e = rw (ne-eqb b minus h) (plain-rank (numberOf (b ∷ bs)) r e)
-
--- ---- the closing token
-
-pub zero-no : (w : List ℕ) → (length w ≡ 1 → ⊥) → isZero w ≡ false
-unfolding isZero
-zero-no [] h = refl
-zero-no (b ∷ []) h = absurd (h refl)
-zero-no (b ∷ d ∷ ds) h = refl
-
-pub zero-at : (w : List ℕ) → length w ≡ 1 → isZero w ≡ eqb (getD w 0 0) 48
-unfolding isZero
-zero-at [] h = absurd (suc-ne-zero _ (sym h))
-zero-at (b ∷ []) h = refl
-zero-at (b ∷ d ∷ ds) h = absurd (suc-ne-zero _ (suc-inj h))
-
--- ---- an entry of a list is not 0
-
-no-zero : {A : Type 0} (f : ℕ → A) (g : A → ℕ) → ((k : ℕ) → g (f k) ≡ 0 → ⊥) → (o : Option ℕ) → orZero (each g (notZero f o)) ≡ 0 → each g (notZero f o) ≡ none
-unfolding orZero each notZero
-no-zero f g p none h = refl
-no-zero f g p (some zero) h = refl
-no-zero f g p (some (suc k)) h = absurd (p k h)
-
-each-self : (o : Option ℕ) → each (λ (x : ℕ). x) o ≡ o
-unfolding each
-each-self none = refl
-each-self (some x) = refl
-
-rank-none : (w : List ℕ) → orZero (rankOf w) ≡ 0 → rankOf w ≡ none
-unfolding rankOf literalOf each rank
-rank-none [] h = refl
-rank-none (b ∷ bs) h = go (eqb b minus) h
-  where
-    go : (t : Bool) → orZero (each rank (cond t (notZero negsuc (numberOf bs)) (notZero (λ k. pos (suc k)) (numberOf (b ∷ bs))))) ≡ 0
-        → each rank (cond t (notZero negsuc (numberOf bs)) (notZero (λ k. pos (suc k)) (numberOf (b ∷ bs)))) ≡ none
-    go true h = no-zero negsuc rank (λ k z. absurd (omega arith)) (numberOf bs) h
-    go false h = no-zero (λ k. pos (suc k)) rank (λ k z. absurd (omega arith)) (numberOf (b ∷ bs)) h
-
-pub entry-none : (signed : Bool) (w : List ℕ) → orZero (entryOf signed w) ≡ 0 → entryOf signed w ≡ none
-unfolding entryOf variableOf
-entry-none true w h = rank-none w h
-entry-none false w h =
-    let e = each-self (notZero suc (numberOf w)) in
-    sym e ∙ no-zero suc (λ (x : ℕ). x) (λ k z. absurd (suc-ne-zero k z)) (numberOf w) (rw e h)

@@ -1,18 +1,19 @@
 -- Lines and tokens: `pieces` from the left by `lengthBefore`, and the token that `next_token` cuts.
 -- For a loop over lines: `line-at-inside`, `line-at-last`, `line-at-more`.
 use mathlib.Core.Path.{_≡_, refl, sym, ap, ap₂, _∙_}
-use mathlib.Core.Bool.{Bool, true, false, cond}
+use mathlib.Core.Bool.{Bool, true, false, cond, _||_}
 use mathlib.Core.List.{List, [], _∷_}
 use Prim.Native.Nat.{ℕ, zero, suc, _+_, _-_, _≤_, _<_}
-use native.Mathlib.Nat.{suc-inj, suc-ne-zero, le-of-suc-le-suc, not-suc-le-zero}
+use native.Mathlib.Nat.{add-zero, suc-inj, suc-ne-zero, le-of-suc-le-suc, not-suc-le-zero}
 use native.Mathlib.Numerals.{add-one}
 use native.Mathlib.Omega.{arith}
 use lib.Dec.{eqb, ltb}
 use lib.ListN.{length, take, drop, getD, drop-of-length-le, length-drop}
 use lib.Seq.{drop-cons, drop-drop, take-all}
-use borrow.Author.Tests.{eq-eqb, ne-eqb, ltb-true, ltb-false, lt-ltb, le-ltb}
+use borrow.Author.Tests.{eq-eqb, ne-eqb, eqb-false, ltb-true, ltb-false, lt-ltb, le-ltb}
 use Rattle.dqbf.specs.Text.{lineFeed, space, onto, pieces, isEmpty}
 use Rattle.dqbf.proofs.Laws.Parts.{tail-lent}
+use Rattle.dqbf.proofs.Laws.Tests.{or-no}
 use Rattle.forms.specs.Shapes.{firstOf, lineLength}
 use Rattle.forms.specs.Working.{lengthBefore, leading, isNil, words, wordsOf, after, Cut}
 
@@ -38,6 +39,22 @@ before-le s (b ∷ bs) = go (eqb b s) (before-le s bs)
     go : (t : Bool) → lengthBefore s bs ≤ length bs → cond t 0 (suc (lengthBefore s bs)) ≤ suc (length bs)
     go true h = omega arith
     go false h = omega arith
+
+-- a block of bytes that are not s, of which those up to k are looked at
+pub block-none : (s : ℕ) (l : List ℕ) (i : ℕ) → lengthBefore s (drop i l) ≡ 0 + lengthBefore s (drop (i + 0) l)
+block-none s l i = rw (add-zero i) (omega arith)
+
+pub block-more : (s : ℕ) (l : List ℕ) (i k : ℕ) (found : Bool) → (found ≡ false → lengthBefore s (drop i l) ≡ k + lengthBefore s (drop (i + k) l)) → i + k < length l
+    → (found || eqb (getD l (i + k) 0) s) ≡ false → lengthBefore s (drop i l) ≡ k + 1 + lengthBefore s (drop (i + (k + 1)) l)
+block-more s l i k found so-far h z =
+    let e = so-far (or-no found (eqb (getD l (i + k) 0) s) z .0) in
+    let m = before-miss s l (i + k) h (eqb-false (getD l (i + k) 0) s (or-no found (eqb (getD l (i + k) 0) s) z .1)) in
+    let q : i + (k + 1) ≡ i + k + 1 = omega arith in
+    rw q (omega arith)
+
+pub block-all : (s : ℕ) (l : List ℕ) (i k : ℕ) (found : Bool) → (found ≡ false → lengthBefore s (drop i l) ≡ k + lengthBefore s (drop (i + k) l)) → k ≡ 16
+    → found ≡ false → lengthBefore s (drop i l) ≡ 16 + lengthBefore s (drop (i + 16) l)
+block-all s l i k found so-far e z = so-far z ∙ ap (λ (n : ℕ). n + lengthBefore s (drop (i + n) l)) e
 
 -- ---- leading
 
@@ -99,7 +116,7 @@ pieces-more s (b ∷ bs) h = go (eqb b s) h (pieces-more s bs)
     go true e r = refl
     go false e r = rw (r (le-of-suc-le-suc e))
 
-pieces-some : (s : ℕ) (l : List ℕ) → isNil (pieces s l) ≡ false
+pub pieces-some : (s : ℕ) (l : List ℕ) → isNil (pieces s l) ≡ false
 unfolding pieces onto isNil
 pieces-some s [] = refl
 pieces-some s (b ∷ bs) = go (eqb b s) (pieces s bs)
@@ -124,6 +141,16 @@ before-is s (b ∷ bs) = go (eqb b s) (pieces s bs) (before-is s bs)
 pub line-is : (text : List ℕ) → lengthBefore lineFeed text ≡ lineLength text
 unfolding lineLength
 line-is text = before-is lineFeed text
+
+-- r bytes were passed, and n stand before the line feed behind them
+pub line-passed : (text : List ℕ) (r n : ℕ) → lengthBefore lineFeed text ≡ r + lengthBefore lineFeed (drop r text) → n ≡ lengthBefore lineFeed (take (length text - r) (drop r text))
+    → r + n ≡ lineLength text
+line-passed text r n e f = let g : n ≡ lengthBefore lineFeed (drop r text) = rw (tail-lent text r) at f in rw g (sym e ∙ line-is text)
+
+pub line-behind : (text : List ℕ) (r n : ℕ) → r ≤ length text → n ≡ lengthBefore lineFeed (take (length text - r) (drop r text)) → r + n ≤ length text
+line-behind text r n h f =
+    let g : n ≡ lengthBefore lineFeed (drop r text) = rw (tail-lent text r) at f in
+    omega (arith, before-le lineFeed (drop r text), length-drop r text)
 
 pub line-inside : (text : List ℕ) → lineLength text ≤ length text
 line-inside text = rw (← line-is text) (before-le lineFeed text)
@@ -160,15 +187,16 @@ module _ (text : List ℕ) (at r : ℕ) (inside : at ≤ length text) (length-is
 
 -- ---- words
 
+pub some-words : (ps : List (List ℕ)) → isNil ps ≡ false → isNil (words ps) ≡ false
+unfolding words isNil isEmpty
+some-words [] h = h
+some-words (w ∷ []) h = refl
+some-words ([] ∷ v ∷ vs) h = some-words (v ∷ vs) refl
+some-words ((b ∷ bs) ∷ v ∷ vs) h = refl
+
 pub words-some : (l : List ℕ) → isNil (wordsOf l) ≡ false
-unfolding wordsOf words isNil isEmpty
-words-some l = go (pieces space l) (pieces-some space l)
-  where
-    go : (ps : List (List ℕ)) → isNil ps ≡ false → isNil (words ps) ≡ false
-    go [] h = h
-    go (w ∷ []) h = refl
-    go ([] ∷ v ∷ vs) h = go (v ∷ vs) refl
-    go ((b ∷ bs) ∷ v ∷ vs) h = refl
+unfolding wordsOf
+words-some l = some-words (pieces space l) (pieces-some space l)
 
 words-leading : (l : List ℕ) → wordsOf (drop (leading space l) l) ≡ wordsOf l
 unfolding wordsOf words pieces leading isEmpty

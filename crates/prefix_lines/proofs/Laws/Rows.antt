@@ -2,7 +2,7 @@
 --     row-length, row-entry, row-past      its length; the value of a variable by its entry
 --     row-same, row-set                    two functions that agree, or agree but for one variable
 --     declared-above, declared-twice, declared-new      the returns of `declare`
---     universal-yes, universal-no, union-more           the loops of `all_universal` and `union_of`
+--     universal-end, universal-more, union-end, union-more     the loop of `members_of`
 -- Assumes nothing.
 use mathlib.Core.Path.{_≡_, refl, ap, sym, _∙_}
 use mathlib.Core.Logic.{_⊎_, inl, inr}
@@ -12,7 +12,7 @@ use Prim.Native.Nat.{ℕ, zero, suc, _+_, _-_, _≤_, _<_}
 use native.Mathlib.Nat.{add-zero, zero-add, not-suc-le-zero, le-of-suc-le-suc}
 use native.Mathlib.Numerals.{sub-one}
 use native.Mathlib.Omega.{arith}
-use borrow.Author.Tests.{le-leb, lt-leb, eq-eqb, ne-eqb}
+use borrow.Author.Tests.{le-leb, lt-leb, ne-eqb}
 use lib.Dec.{leb, ltb, eqb}
 use lib.ListN.{length, getD, drop, set, length-map, List·getD-eq-default}
 use lib.Seq.{drop-cons, drop-length}
@@ -21,6 +21,7 @@ use Rattle.dqbf.specs.Model.{numbers}
 use Rattle.dqbf.proofs.Laws.Tests.{either, ltb-yes, ltb-no}
 use Rattle.dqbf.proofs.Soundness.Link.{numbers-length}
 use Rattle.tables.specs.Tables.{entry}
+use Rattle.tables.specs.WellFormed.{allOf}
 use Rattle.prefix_lines.specs.Rows.{declarable, Declared, isUniversal, unionOf}
 
 pub row-length : {A : Type 0} (f : ℕ → A) (v : ℕ) → length (map f (numbers 0 v)) ≡ v
@@ -98,14 +99,16 @@ module _ (bound x kind s : ℕ) (sets kinds : List ℕ) where
 
 -- ---- kinds and sets of several variables
 
-module _ (kinds : List ℕ) (x : ℕ) {k : ℕ} (e : k ≡ entry kinds x) where
-  pub universal-yes : k ≡ 1 → isUniversal kinds x ≡ true
-  unfolding isUniversal
-  universal-yes q = eq-eqb (entry kinds x) 1 (sym e ∙ q)
+pub universal-end : (kinds xs : List ℕ) → true ≡ allOf (isUniversal kinds) (drop (length xs) xs)
+unfolding allOf
+universal-end kinds xs = rw (drop-length xs)
 
-  pub universal-no : (k ≡ 1 → ⊥) → isUniversal kinds x ≡ false
-  unfolding isUniversal
-  universal-no n = ne-eqb (entry kinds x) 1 (λ q. n (e ∙ q))
+pub universal-more : (kinds xs : List ℕ) (i : ℕ) {k : ℕ} {t : Bool} → 0 < i → i ≤ length xs → t ≡ allOf (isUniversal kinds) (drop i xs) → k ≡ entry kinds (getD xs (i - 1) 0)
+    → (eqb k 1 && t) ≡ allOf (isUniversal kinds) (drop (i - 1) xs)
+unfolding allOf isUniversal
+universal-more kinds xs i {k} {t} some low e f =
+    let q : suc (i - 1) ≡ i = omega arith in
+    rw (f, e) (ap (λ n. eqb (entry kinds (getD xs (i - 1) 0)) 1 && allOf (isUniversal kinds) (drop n xs)) (sym q) ∙ sym (ap (allOf (isUniversal kinds)) (drop-cons xs (i - 1) 0 (omega arith))))
 
 pub union-end : (sets xs : List ℕ) → 0 ≡ unionOf sets (drop (length xs) xs)
 unfolding unionOf

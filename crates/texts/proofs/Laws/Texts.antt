@@ -25,11 +25,10 @@ use Rattle.forms.proofs.Laws.Pieces.{line-at-inside, line-at-last, line-at-more
 use Rattle.tables.specs.Tables.{Tables}
 use Rattle.tables.specs.Spread.{spread, stateOf, blank}
 use Rattle.tables.specs.WellFormed.{long}
-use Rattle.tables.specs.declared.State.{State}
 use Rattle.tables.proofs.Laws.Spread.{blank-state}
 use Rattle.prefix_lines.specs.Pending.{pending}
 use Rattle.prefix_lines.specs.Lines.{phaseNumber, progressOf, refusalOf, ReadSoFar, Known, LineRead}
-use Rattle.texts.specs.Texts.{emptyState, TextRead}
+use Rattle.texts.specs.Texts.{startProgress, TextRead}
 use Rattle.prefix_lines.specs.declared.progress.Progress.{Progress}
 use Rattle.prefix_lines.specs.declared.progress.LineAnswer.{LineAnswer}
 use Rattle.texts.specs.declared.reading.TextAnswer.{TextAnswer}
@@ -41,14 +40,14 @@ start-blank : pending (start .formula) ≡ blank
 unfolding pending numbers
 start-blank = refl
 
-pub read-start : (t : Tables) → long t ≡ true → t ≡ spread blank t → {s : State} → s ≡ emptyState 0 → ReadSoFar t start (record { phase = 0; count = 0; places = 0; state = s }) t
+pub read-start : (t : Tables) → long t ≡ true → t ≡ spread blank t → {p : Progress} → p ≡ startProgress → ReadSoFar t start p t
 unfolding progressOf phaseNumber universalsOf wordOf
 read-start t lent cleared q = record {
   lent = lent;
   sane = start-sane;
   opened = λ e. refl;
   few = omega arith;
-  progress = λ i. record { phase = 0; count = 0; places = 0; state = (q ∙ sym blank-state ∙ ap stateOf (sym start-blank)) i };
+  progress = q ∙ (λ i. record { phase = 0; count = 0; places = 0; state = (sym blank-state ∙ ap stateOf (sym start-blank)) i });
   tables = cleared ∙ ap (λ m. spread m t) (sym start-blank);
 }
 
@@ -155,8 +154,8 @@ pub record Reached (o : Loaded) (t : Tables) (text : List ℕ) (at n : ℕ) (p :
   pub read : ReadSoFar t reader p now
   pub knows : Known reader known
 
-pub reached-start : (t : Tables) (text known : List ℕ) → long t ≡ true → t ≡ spread blank t → {s : State} → s ≡ emptyState 0
-    → Reached (readFrom (pieces lineFeed text) 0 start) t text 0 0 (record { phase = 0; count = 0; places = 0; state = s }) known t
+pub reached-start : (t : Tables) (text known : List ℕ) → long t ≡ true → t ≡ spread blank t → {p : Progress} → p ≡ startProgress
+    → Reached (readFrom (pieces lineFeed text) 0 start) t text 0 0 p known t
 reached-start t text known lent cleared q = record { reader = start; so-far = refl; read = read-start t lent cleared q; knows = known-start known }
 
 module _ {o : Loaded} {t : Tables} {text : List ℕ} {at n : ℕ} {p : Progress} {known : List ℕ} {now : Tables} (h : Reached o t text at n p known now) where

@@ -1,7 +1,7 @@
 use borrow.Author.Needs.{needs}
-use mathlib.Core.Path.{_≡_, refl, ap, sym, _∙_}
+use mathlib.Core.Path.{sym, refl}
 use native.Mathlib.Omega.{arith}
-use lib.ListN.{length, drop, getD}
+use lib.ListN.{drop, getD}
 use lib.Seq.{length-take-le}
 use Rattle.dqbf.proofs.Laws.Parts.{tail-lent}
 use Rattle.prefix_lines.proofs.Laws.PrefixLines.{d-late, d-stranger, d-refused, d-read}
@@ -9,137 +9,131 @@ use Rattle.prefix_lines.proofs.declarations.dependent_line.Statement.{s
 use Rattle.prefix_lines.proofs.declarations.dependent_line.Tie as tie
 use Rattle.prefix_lines.proofs.declarations.dependent_line.Reads as reads
 use Rattle.prefix_lines.proofs.declarations.dependent_line.Lts as lts
-use Rattle.prefix_lines.proofs.declarations.all_universal.Reads as all-universal-reads
 use Rattle.prefix_lines.proofs.declarations.declare.Reads as declare-reads
-use Rattle.prefix_lines.proofs.declarations.union_of.Reads as union-of-reads
+use Rattle.prefix_lines.proofs.declarations.members_of.Reads as members-of-reads
+use Rattle.prefix_lines.proofs.progress.refused.Reads as refused-reads
 
--- src/declarations.rt:178:9
+-- src/declarations.rt:170:9
+refused-requires : tie.Need-refused-requires
+refused-requires c κs = search needs
+
+-- src/declarations.rt:170:9
 returns : tie.Need-returns
-returns c = λ t r l e h. d-late h (c .if1 .taken) (getD (c .before .before .before .before .before .args .numbers .now) 0 0) (drop 1 (c .before .before .before .before .before .args .numbers .now))
+returns c = λ t r l e h. rw (c .refused .ensures) (d-late h (c .before .if1 .taken) (getD (c .before .before .before .before .before .before .args .numbers .now) 0 0) (drop 1 (c .before .before .before .before .before .before .args .numbers .now)))
 
--- src/declarations.rt:182:15
+-- src/declarations.rt:174:15
 cast-end : tie.Need-cast-end
 cast-end c = search needs
 
--- src/declarations.rt:183:23
-sub-all-universal : tie.Need-sub-all-universal
-sub-all-universal c = search needs
+-- src/declarations.rt:175:30
+sub-members-of : tie.Need-sub-members-of
+sub-members-of c = search needs
 
--- src/declarations.rt:183:23
-part-all-universal-start : tie.Need-part-all-universal-start
-part-all-universal-start c = search needs
+-- src/declarations.rt:175:30
+part-members-of-start : tie.Need-part-members-of-start
+part-members-of-start c = search needs
 
--- src/declarations.rt:183:23
-part-all-universal-end : tie.Need-part-all-universal-end
-part-all-universal-end c = search needs
+-- src/declarations.rt:175:30
+part-members-of-end : tie.Need-part-members-of-end
+part-members-of-end c = search needs
 
--- src/declarations.rt:183:38
-slice-reshare-prefix-all-universal : tie.Need-slice-reshare-prefix-all-universal
-slice-reshare-prefix-all-universal c = search needs
+-- src/declarations.rt:175:45
+slice-reshare-prefix-members-of : tie.Need-slice-reshare-prefix-members-of
+slice-reshare-prefix-members-of c = search needs
 
--- src/declarations.rt:183:38
-slice-aggregate-all-universal : tie.Need-slice-aggregate-all-universal
-slice-aggregate-all-universal c = sym (length-take-le _ (c .before .before .before .before .before .before .before .before .before .before .args .kinds .now) (omega arith))
+-- src/declarations.rt:175:45
+slice-aggregate-members-of : tie.Need-slice-aggregate-members-of
+slice-aggregate-members-of c = sym (length-take-le _ (c .before .before .before .before .before .before .before .before .before .before .args .sets .now) (omega arith))
 
--- src/declarations.rt:183:9
-all-universal-requires : tie.Need-all-universal-requires
-all-universal-requires c κs = search needs
+-- src/declarations.rt:175:59
+slice-reshare-prefix-members-of-2 : tie.Need-slice-reshare-prefix-members-of-2
+slice-reshare-prefix-members-of-2 c = search needs
 
--- src/declarations.rt:184:9
+-- src/declarations.rt:175:59
+slice-aggregate-members-of-2 : tie.Need-slice-aggregate-members-of-2
+slice-aggregate-members-of-2 c = sym (length-take-le _ (c .before .before .before .before .before .before .before .before .before .before .before .args .kinds .now) (omega arith))
+
+-- src/declarations.rt:175:9
+members-of-requires : tie.Need-members-of-requires
+members-of-requires c κs = search needs
+
+-- src/declarations.rt:177:9
+refused-requires-2 : tie.Need-refused-requires-2
+refused-requires-2 c κs = search needs
+
+-- src/declarations.rt:177:9
 same-length : tie.Need-same-length
 same-length c = refl
 
--- src/declarations.rt:184:9
+-- src/declarations.rt:177:9
+same-length-2 : tie.Need-same-length-2
+same-length-2 c = refl
+
+-- src/declarations.rt:177:9
 returns-2 : tie.Need-returns-2
-returns-2 c =
-    let xs = c .before .before .before .before .before .before .before .before .before .before .before .before .args .numbers .now in
-    λ t r l e h. d-stranger h (c .before .before .before .before .before .before .before .if1 .left) (getD xs 0 0) (drop 1 xs) (rw (tail-lent xs 1) at (c .before .all-universal .ensures)) (c .if2 .taken)
+returns-2 c = let xs = c .before .before .before .before .before .before .before .before .before .before .before .before .before .before .before .args .numbers .now in λ t r l e h. rw (c .refused2 .ensures) (d-stranger h (c .before .before .before .before .before .before .before .before .before .before .if1 .left) (getD xs 0 0) (drop 1 xs) (rw (tail-lent xs 1) at (c .before .before .before .members-of .ensures .0)) (c .before .if2 .taken))
 
--- src/declarations.rt:186:24
-sub-union-of : tie.Need-sub-union-of
-sub-union-of c = search needs
-
--- src/declarations.rt:186:24
-part-union-of-start : tie.Need-part-union-of-start
-part-union-of-start c = search needs
-
--- src/declarations.rt:186:24
-part-union-of-end : tie.Need-part-union-of-end
-part-union-of-end c = search needs
-
--- src/declarations.rt:186:39
-slice-reshare-prefix-union-of : tie.Need-slice-reshare-prefix-union-of
-slice-reshare-prefix-union-of c = search needs
-
--- src/declarations.rt:186:39
-slice-aggregate-union-of : tie.Need-slice-aggregate-union-of
-slice-aggregate-union-of c = sym (length-take-le _ (c .before .before .before .before .before .before .before .before .before .before .before .before .before .before .args .sets .now) (omega arith))
-
--- src/declarations.rt:186:9
-union-of-requires : tie.Need-union-of-requires
-union-of-requires c κs = search needs
-
--- src/declarations.rt:187:17
+-- src/declarations.rt:179:17
 shared-slice-read-declare : tie.Need-shared-slice-read-declare
 shared-slice-read-declare c = search needs
 
--- src/declarations.rt:187:9
+-- src/declarations.rt:179:9
 declare-requires : tie.Need-declare-requires
 declare-requires c κs = search needs
 
--- src/declarations.rt:188:9
-same-length-2 : tie.Need-same-length-2
-same-length-2 c = c .before .before .before .before .before .declare .kept .1 .1 .1 .1 .0
+-- src/declarations.rt:180:9
+refused-requires-3 : tie.Need-refused-requires-3
+refused-requires-3 c κs = search needs
 
--- src/declarations.rt:188:9
+-- src/declarations.rt:180:9
 same-length-3 : tie.Need-same-length-3
-same-length-3 c = c .before .before .before .before .before .declare .kept .1 .1 .1 .1 .1 .0
+same-length-3 c = c .before .before .before .before .before .before .declare .kept .1 .1 .1 .1 .0
 
--- src/declarations.rt:188:9
-returns-3 : tie.Need-returns-3
-returns-3 c =
-    let xs = c .before .before .before .before .before .before .before .before .before .before .before .before .before .before .before .before .before .before .before .before .before .before .before .before .args .numbers .now in
-    λ t r l e h. d-refused h (c .before .before .before .before .before .before .before .before .before .before .before .before .before .before .before .before .before .before .before .if1 .left) (getD xs 0 0) (drop 1 xs) (rw (tail-lent xs 1) at (c .before .before .before .before .before .before .before .before .before .before .before .before .before .all-universal .ensures)) (c .before .before .before .before .before .before .before .before .before .before .before .before .if2 .left) (rw (tail-lent xs 1) at (c .before .before .before .before .before .before .before .before .before .union-of .ensures)) (omega arith) (c .before .before .before .before .before .declare .ensures .told) (c .if3 .taken) (c .before .before .before .before .before .declare .ensures .sets-are) (c .before .before .before .before .before .declare .ensures .kinds-are)
-
--- src/declarations.rt:165:1
+-- src/declarations.rt:180:9
 same-length-4 : tie.Need-same-length-4
-same-length-4 c = c .before .before .before .before .before .declare .kept .1 .1 .1 .1 .0
+same-length-4 c = c .before .before .before .before .before .before .declare .kept .1 .1 .1 .1 .1 .0
 
--- src/declarations.rt:165:1
+-- src/declarations.rt:180:9
+returns-3 : tie.Need-returns-3
+returns-3 c = let xs = c .before .before .before .before .before .before .before .before .before .before .before .before .before .before .before .before .before .before .before .before .before .before .before .before .args .numbers .now in λ t r l e h. rw (c .refused3 .ensures) (d-refused h (c .before .before .before .before .before .before .before .before .before .before .before .before .before .before .before .before .before .before .before .if1 .left) (getD xs 0 0) (drop 1 xs) (rw (tail-lent xs 1) at (c .before .before .before .before .before .before .before .before .before .before .before .before .members-of .ensures .0)) (c .before .before .before .before .before .before .before .before .before .before .if2 .left) (rw (tail-lent xs 1) at (c .before .before .before .before .before .before .before .before .before .before .before .before .members-of .ensures .1)) (λ z. omega (arith, c .before .before .before .before .before .before .before .before .before .before .before .before .before .before .before .before .before .before .before .before .before .before .before .before .pre .1)) (c .before .before .before .before .before .before .declare .ensures .told) (c .before .if3 .taken) (c .before .before .before .before .before .before .declare .ensures .sets-are) (c .before .before .before .before .before .before .declare .ensures .kinds-are))
+
+-- src/declarations.rt:157:1
 same-length-5 : tie.Need-same-length-5
-same-length-5 c = c .before .before .before .before .before .declare .kept .1 .1 .1 .1 .1 .0
+same-length-5 c = c .before .before .before .before .before .declare .kept .1 .1 .1 .1 .0
 
--- src/declarations.rt:165:1
+-- src/declarations.rt:157:1
+same-length-6 : tie.Need-same-length-6
+same-length-6 c = c .before .before .before .before .before .declare .kept .1 .1 .1 .1 .1 .0
+
+-- src/declarations.rt:157:1
 returns-4 : tie.Need-returns-4
-returns-4 c =
-    let xs = c .before .before .before .before .before .before .before .before .before .before .before .before .before .before .before .before .before .before .before .before .before .before .before .before .args .numbers .now in
-    λ t r l e h. d-read h (c .before .before .before .before .before .before .before .before .before .before .before .before .before .before .before .before .before .before .before .if1 .left) (getD xs 0 0) (drop 1 xs) (rw (tail-lent xs 1) at (c .before .before .before .before .before .before .before .before .before .before .before .before .before .all-universal .ensures)) (c .before .before .before .before .before .before .before .before .before .before .before .before .if2 .left) (rw (tail-lent xs 1) at (c .before .before .before .before .before .before .before .before .before .union-of .ensures)) (omega arith) (c .before .before .before .before .before .declare .ensures .told) (c .if3 .left) (c .before .before .before .before .before .declare .ensures .sets-are) (c .before .before .before .before .before .declare .ensures .kinds-are)
+returns-4 c = let xs = c .before .before .before .before .before .before .before .before .before .before .before .before .before .before .before .before .before .before .before .before .before .before .before .args .numbers .now in λ t r l e h. d-read h (c .before .before .before .before .before .before .before .before .before .before .before .before .before .before .before .before .before .before .if1 .left) (getD xs 0 0) (drop 1 xs) (rw (tail-lent xs 1) at (c .before .before .before .before .before .before .before .before .before .before .before .members-of .ensures .0)) (c .before .before .before .before .before .before .before .before .before .if2 .left) (rw (tail-lent xs 1) at (c .before .before .before .before .before .before .before .before .before .before .before .members-of .ensures .1)) (omega arith) (c .before .before .before .before .before .declare .ensures .told) (c .if3 .left) (c .before .before .before .before .before .declare .ensures .sets-are) (c .before .before .before .before .before .declare .ensures .kinds-are)
 
 pub dependent-line-spec : {M : Type 1} → statement M
 dependent-line-spec =
     tie.close
     (tie.spec
+    refused-requires
     returns
     cast-end
-    sub-all-universal
-    part-all-universal-start
-    part-all-universal-end
-    slice-reshare-prefix-all-universal
-    slice-aggregate-all-universal
-    all-universal-requires
+    sub-members-of
+    part-members-of-start
+    part-members-of-end
+    slice-reshare-prefix-members-of
+    slice-aggregate-members-of
+    slice-reshare-prefix-members-of-2
+    slice-aggregate-members-of-2
+    members-of-requires
+    refused-requires-2
     same-length
+    same-length-2
     returns-2
-    sub-union-of
-    part-union-of-start
-    part-union-of-end
-    slice-reshare-prefix-union-of
-    slice-aggregate-union-of
-    union-of-requires
     shared-slice-read-declare
     declare-requires
-    same-length-2
+    refused-requires-3
     same-length-3
-    returns-3
     same-length-4
+    returns-3
     same-length-5
+    same-length-6
     returns-4)

@@ -14,7 +14,7 @@ use Rattle.texts.proofs.reading.read_lines.Statement.{statement}
 use Rattle.texts.proofs.reading.read_lines.Tie as tie
 use Rattle.texts.proofs.reading.read_lines.Reads as reads
 use Rattle.texts.proofs.reading.read_lines.Lts as lts
-use Rattle.texts.proofs.lines.empty_state.Reads as empty-state-reads
+use Rattle.texts.proofs.reading.start_of_text.Reads as start-of-text-reads
 use Rattle.texts.proofs.lines.read_line.Reads as read-line-reads
 use Rattle.texts.proofs.reading.end_of_text.Reads as end-of-text-reads
 use Rattle.forms.proofs.text.line_length.Reads as line-length-reads
@@ -26,12 +26,12 @@ abbrev μ-loop : tie.MeasureT-loop
 μ-loop text literals₀ ends₀ sets₀ kinds₀ numbers₀ known₀ progress₀ line₀ at₀ literals ends sets kinds numbers known progress line at = length text - at
 
 -- src/reading.rt:51:9
-empty-state-requires : tie.Need-empty-state-requires Inv-loop μ-loop
-empty-state-requires c κs = search needs
+start-of-text-requires : tie.Need-start-of-text-requires Inv-loop μ-loop
+start-of-text-requires c κs = search needs
 
 -- src/reading.rt:60:5
 loop-holds : tie.Need-loop-holds Inv-loop μ-loop
-loop-holds c = (omega arith, omega arith, refl, refl, refl, refl, search needs, search needs, reached-start _ _ _ (c .before .before .before .before .before .pre .1) (c .before .before .before .before .before .pre .2) (c .empty-state .ensures))
+loop-holds c = (omega arith, omega arith, refl, refl, refl, refl, search needs, search needs, reached-start _ _ _ (c .before .before .before .before .before .pre .1) (c .before .before .before .before .before .pre .2) (c .start-of-text .ensures))
 
 -- src/reading.rt:61:42
 sub-line-length : tie.Need-sub-line-length Inv-loop μ-loop
@@ -165,7 +165,7 @@ read-lines-spec =
     (tie.spec
     Inv-loop
     μ-loop
-    empty-state-requires
+    start-of-text-requires
     loop-holds
     sub-line-length
     part-line-length-start

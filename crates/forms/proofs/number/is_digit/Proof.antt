@@ -1,0 +1,14 @@
+use mathlib.Core.Path.{refl}
+use Rattle.forms.specs.Working.{isDigit}
+use Rattle.forms.proofs.number.is_digit.Statement.{statement}
+use Rattle.forms.proofs.number.is_digit.Tie as tie
+use Rattle.forms.proofs.number.is_digit.Reads as reads
+use Rattle.forms.proofs.number.is_digit.Lts as lts
+
+-- src/form.rt:29:1
+returns : tie.Need-returns
+unfolding isDigit
+returns c = refl
+
+pub is-digit-spec : {M : Type 1} → statement M
+is-digit-spec = tie.close (tie.spec returns)

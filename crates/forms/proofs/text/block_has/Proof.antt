@@ -1,0 +1,59 @@
+use mathlib.Core.Path.{_≡_}
+use mathlib.Core.Bool.{false}
+use Prim.Native.Nat.{_+_, _-_, _≤_}
+use native.Mathlib.Omega.{arith}
+use lib.ListN.{drop}
+use Rattle.forms.specs.Working.{lengthBefore}
+use Rattle.forms.proofs.Laws.Pieces.{block-none, block-more, block-all}
+use Rattle.forms.proofs.text.block_has.Statement.{statement}
+use Rattle.forms.proofs.text.block_has.Tie as tie
+use Rattle.forms.proofs.text.block_has.Reads as reads
+use Rattle.forms.proofs.text.block_has.Lts as lts
+
+abbrev Inv-loop : tie.InvT-loop
+Inv-loop bytes i b found₀ k₀ found k = (k ≤ 16) × (found ≡ false → lengthBefore b (drop i bytes) ≡ k + lengthBefore b (drop (i + k) bytes))
+
+abbrev μ-loop : tie.MeasureT-loop
+μ-loop bytes i b found₀ k₀ found k = 16 - k
+
+-- src/text.rt:31:5
+loop-holds : tie.Need-loop-holds Inv-loop μ-loop
+loop-holds c = (omega arith, λ z. block-none (c .args .b) (c .args .bytes .now) (c .args .i))
+
+-- src/text.rt:32:18
+add-at : tie.Need-add-at Inv-loop μ-loop
+add-at c = omega arith
+
+-- src/text.rt:33:26
+shared-slice-read-found : tie.Need-shared-slice-read-found Inv-loop μ-loop
+shared-slice-read-found c = omega arith
+
+-- src/text.rt:34:9
+add-k : tie.Need-add-k Inv-loop μ-loop
+add-k c = omega arith
+
+-- src/text.rt:31:5
+loop-less : tie.Need-loop-less Inv-loop μ-loop
+loop-less c = omega arith
+
+-- src/text.rt:31:5
+loop-again : tie.Need-loop-again Inv-loop μ-loop
+loop-again c = (omega arith, block-more (c .before .before .before .args .b) (c .before .before .before .args .bytes .now) (c .before .before .before .args .i) (c .before .before .loop .k) (c .before .before .loop .found) (c .before .before .loop .inv .1) (omega arith))
+
+-- src/text.rt:25:1
+returns : tie.Need-returns Inv-loop μ-loop
+returns c = block-all (c .before .before .args .b) (c .before .before .args .bytes .now) (c .before .before .args .i) (c .before .loop .k) (c .before .loop .found) (c .before .loop .inv .1) (omega arith)
+
+pub block-has-spec : {M : Type 1} → statement M
+block-has-spec =
+    tie.close
+    (tie.spec
+    Inv-loop
+    μ-loop
+    loop-holds
+    add-at
+    shared-slice-read-found
+    add-k
+    loop-less
+    loop-again
+    returns)

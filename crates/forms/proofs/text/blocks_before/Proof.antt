@@ -1,0 +1,63 @@
+use mathlib.Core.Path.{_≡_}
+use Prim.Native.Nat.{_+_, _-_, _≤_}
+use native.Mathlib.Omega.{arith}
+use lib.ListN.{length, drop}
+use Rattle.forms.specs.Working.{lengthBefore}
+use Rattle.forms.proofs.text.blocks_before.Statement.{statement}
+use Rattle.forms.proofs.text.blocks_before.Tie as tie
+use Rattle.forms.proofs.text.blocks_before.Reads as reads
+use Rattle.forms.proofs.text.blocks_before.Lts as lts
+use Rattle.forms.proofs.text.block_has.Reads as block-has-reads
+
+abbrev Inv-loop : tie.InvT-loop
+Inv-loop bytes b i₀ i = (i ≤ length bytes) × (lengthBefore b bytes ≡ i + lengthBefore b (drop i bytes))
+
+abbrev μ-loop : tie.MeasureT-loop
+μ-loop bytes b i₀ i = length bytes - i
+
+-- src/text.rt:44:5
+loop-holds : tie.Need-loop-holds Inv-loop μ-loop
+loop-holds c = (omega arith, omega arith)
+
+-- src/text.rt:44:11
+sub-loop : tie.Need-sub-loop Inv-loop μ-loop
+sub-loop c = omega arith
+
+-- src/text.rt:45:12
+block-has-requires : tie.Need-block-has-requires Inv-loop μ-loop
+block-has-requires c κs = omega arith
+
+-- src/text.rt:46:13
+returns : tie.Need-returns Inv-loop μ-loop
+returns c = (c .before .before .before .loop .inv .0, c .before .before .before .loop .inv .1)
+
+-- src/text.rt:48:9
+add-i : tie.Need-add-i Inv-loop μ-loop
+add-i c = omega arith
+
+-- src/text.rt:44:5
+loop-less : tie.Need-loop-less Inv-loop μ-loop
+loop-less c = omega arith
+
+-- src/text.rt:44:5
+loop-again : tie.Need-loop-again Inv-loop μ-loop
+loop-again c = let e = c .before .block-has .ensures (c .if1 .left) in (omega arith, omega arith)
+
+-- src/text.rt:40:1
+returns-2 : tie.Need-returns-2 Inv-loop μ-loop
+returns-2 c = (c .before .loop .inv .0, c .before .loop .inv .1)
+
+pub blocks-before-spec : {M : Type 1} → statement M
+blocks-before-spec =
+    tie.close
+    (tie.spec
+    Inv-loop
+    μ-loop
+    loop-holds
+    sub-loop
+    block-has-requires
+    returns
+    add-i
+    loop-less
+    loop-again
+    returns-2)
