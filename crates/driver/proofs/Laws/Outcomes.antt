@@ -156,7 +156,7 @@ module _ (b : Buffers) (text : List ℕ) (kinds-room : 512 ≤ length (b .kinds)
 -- ---- calls that write nothing
 
 -- where a clause is unknown its start does not count
-show-start : (t : Tables) (s : State) (n : ℕ) → showResult (entry (t .ends) (n - 1)) (lengthAnswer t s n) ≡ showResult (shownStart t s n) (lengthAnswer t s n)
+pub show-start : (t : Tables) (s : State) (n : ℕ) → showResult (entry (t .ends) (n - 1)) (lengthAnswer t s n) ≡ showResult (shownStart t s n) (lengthAnswer t s n)
 unfolding lengthAnswer shownStart unlessRefused askClause showResult
 show-start t s n = go (unusable t s) (unknown (modelIn t s) n)
   where
