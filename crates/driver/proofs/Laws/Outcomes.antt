@@ -68,6 +68,10 @@ whole-sizes b e =
       state = leb-true 16 (length (b .state)) (at 4);
     }
 
+-- where the test of the sizes passes
+pub sizes : (b : Buffers) {a : Bool} → a ≡ whole b → not a ≡ false → Sizes b
+sizes b {a} told h = whole-sizes b (sym told ∙ not-false a h)
+
 pub sizes-whole : (b : Buffers) → Sizes b → whole b ≡ true
 sizes-whole b z = sym (whole-last b (z .literals) (z .ends) (z .sets) (z .kinds)) ∙ le-leb 16 (length (b .state)) (z .state)
 
@@ -89,9 +93,6 @@ module _ (b : Buffers) (records : List ℕ) {a : Bool} (told : a ≡ whole b) wh
   pub run-short : {r : ℕ} → not a ≡ true → r ≡ packed 2 0 1 → _≡_ {A = After} (record { buffers = b; result = r }) (runBytes b records)
   unfolding runBytes runShort runResult
   run-short h e = rw (← told, not-true a h, e)
-
-  pub sizes : not a ≡ false → Sizes b
-  sizes h = whole-sizes b (sym told ∙ not-false a h)
 
   pub run-on : not a ≡ false → {x : After} → x ≡ ran b (runOf (tablesIn b) (stateIn b) records) → x ≡ runBytes b records
   unfolding runBytes

@@ -12,13 +12,20 @@ pack-requires : tie.Need-pack-requires
 pack-requires c κs = search needs
 
 returns : tie.Need-returns
-returns c = clause-short (buffersOf (c .before .before .before .before .before .before .before .before .args .literals .now) (c .before .before .before .before .before .before .before .before .args .ends .now) (c .before .before .before .before .before .before .before .before .args .sets .now) (c .before .before .before .before .before .before .before .before .args .kinds .now) (c .before .before .before .before .before .before .before .before .args .state .now)) (c .before .before .before .before .before .before .before .before .args .clause) (c .before .before .is-whole .ensures) (c .before .if1 .taken) (c .pack .ensures)
+returns c =
+    let a = c .before .before .before .before .before .before .before .before .args in
+    clause-short (buffersOf (a .literals .now) (a .ends .now) (a .sets .now) (a .kinds .now) (a .state .now)) (a .clause) (c .before .before .is-whole .ensures) (c .before .if1 .taken) (c .pack .ensures)
 
 clause-whole-requires : tie.Need-clause-whole-requires
-clause-whole-requires c κs = let z = sizes (buffersOf (c .before .before .before .before .before .before .before .args .literals .now) (c .before .before .before .before .before .before .before .args .ends .now) (c .before .before .before .before .before .before .before .args .sets .now) (c .before .before .before .before .before .before .before .args .kinds .now) (c .before .before .before .before .before .before .before .args .state .now)) (c .before .before .before .before .before .before .before .args .state .now) (c .before .is-whole .ensures) (c .if1 .left) in (z .literals, z .ends, z .sets, z .state)
+clause-whole-requires c κs =
+    let a = c .before .before .before .before .before .before .before .args in
+    let z = sizes (buffersOf (a .literals .now) (a .ends .now) (a .sets .now) (a .kinds .now) (a .state .now)) (c .before .is-whole .ensures) (c .if1 .left) in
+    (z .literals, z .ends, z .sets, z .state)
 
 returns-2 : tie.Need-returns-2
-returns-2 c = clause-on (buffersOf (c .before .before .before .before .before .before .before .before .args .literals .now) (c .before .before .before .before .before .before .before .before .args .ends .now) (c .before .before .before .before .before .before .before .before .args .sets .now) (c .before .before .before .before .before .before .before .before .args .kinds .now) (c .before .before .before .before .before .before .before .before .args .state .now)) (c .before .before .before .before .before .before .before .before .args .clause) (c .before .before .is-whole .ensures) (c .before .if1 .left) (c .clause-whole .ensures)
+returns-2 c =
+    let a = c .before .before .before .before .before .before .before .before .args in
+    clause-on (buffersOf (a .literals .now) (a .ends .now) (a .sets .now) (a .kinds .now) (a .state .now)) (a .clause) (c .before .before .is-whole .ensures) (c .before .if1 .left) (c .clause-whole .ensures)
 
 pub kefthrun-clause-spec : {M : Type 1} → statement M
 kefthrun-clause-spec =

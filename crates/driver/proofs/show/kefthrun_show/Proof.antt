@@ -12,13 +12,20 @@ pack-requires : tie.Need-pack-requires
 pack-requires c κs = search needs
 
 returns : tie.Need-returns
-returns c = show-short (buffersOf (c .before .before .before .before .before .before .before .before .args .literals .now) (c .before .before .before .before .before .before .before .before .args .ends .now) (c .before .before .before .before .before .before .before .before .args .sets .now) (c .before .before .before .before .before .before .before .before .args .kinds .now) (c .before .before .before .before .before .before .before .before .args .state .now)) (c .before .before .before .before .before .before .before .before .args .clause) (c .before .before .is-whole .ensures) (c .before .if1 .taken) (c .pack .ensures)
+returns c =
+    let a = c .before .before .before .before .before .before .before .before .args in
+    show-short (buffersOf (a .literals .now) (a .ends .now) (a .sets .now) (a .kinds .now) (a .state .now)) (a .clause) (c .before .before .is-whole .ensures) (c .before .if1 .taken) (c .pack .ensures)
 
 show-whole-requires : tie.Need-show-whole-requires
-show-whole-requires c κs = let z = sizes (buffersOf (c .before .before .before .before .before .before .before .args .literals .now) (c .before .before .before .before .before .before .before .args .ends .now) (c .before .before .before .before .before .before .before .args .sets .now) (c .before .before .before .before .before .before .before .args .kinds .now) (c .before .before .before .before .before .before .before .args .state .now)) (c .before .before .before .before .before .before .before .args .state .now) (c .before .is-whole .ensures) (c .if1 .left) in (z .literals, z .ends, z .sets, z .state)
+show-whole-requires c κs =
+    let a = c .before .before .before .before .before .before .before .args in
+    let z = sizes (buffersOf (a .literals .now) (a .ends .now) (a .sets .now) (a .kinds .now) (a .state .now)) (c .before .is-whole .ensures) (c .if1 .left) in
+    (z .literals, z .ends, z .sets, z .state)
 
 returns-2 : tie.Need-returns-2
-returns-2 c = show-on (buffersOf (c .before .before .before .before .before .before .before .before .args .literals .now) (c .before .before .before .before .before .before .before .before .args .ends .now) (c .before .before .before .before .before .before .before .before .args .sets .now) (c .before .before .before .before .before .before .before .before .args .kinds .now) (c .before .before .before .before .before .before .before .before .args .state .now)) (c .before .before .before .before .before .before .before .before .args .clause) (c .before .before .is-whole .ensures) (c .before .if1 .left) (c .show-whole .ensures)
+returns-2 c =
+    let a = c .before .before .before .before .before .before .before .before .args in
+    show-on (buffersOf (a .literals .now) (a .ends .now) (a .sets .now) (a .kinds .now) (a .state .now)) (a .clause) (c .before .before .is-whole .ensures) (c .before .if1 .left) (c .show-whole .ensures)
 
 pub kefthrun-show-spec : {M : Type 1} → statement M
 kefthrun-show-spec =

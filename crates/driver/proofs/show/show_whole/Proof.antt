@@ -42,7 +42,9 @@ of-show-requires : tie.Need-of-show-requires
 of-show-requires c κs = search needs
 
 returns : tie.Need-returns
-returns c = show-told (buffersOf (c .before .before .before .before .before .before .before .before .before .before .before .before .before .before .before .before .before .before .before .before .args .literals .now) (c .before .before .before .before .before .before .before .before .before .before .before .before .before .before .before .before .before .before .before .before .args .ends .now) (c .before .before .before .before .before .before .before .before .before .before .before .before .before .before .before .before .before .before .before .before .args .sets .now) (c .before .before .before .before .before .before .before .before .before .before .before .before .before .before .before .before .before .before .before .before .args .kinds .now) (c .before .before .before .before .before .before .before .before .before .before .before .before .before .before .before .before .before .before .before .before .args .state .now)) (c .before .before .before .before .before .before .before .before .before .before .before .read-tables .ensures .0) (c .before .before .before .before .before .before .before .before .before .before .before .read-tables .ensures .1) (c .before .before .before .before .before .before .before .before .before .before .before .read-tables .ensures .2) (c .before .before .before .before .before .before .before .read-state .ensures) (c .before .before .before .before .before .before .before .before .before .before .before .before .before .before .before .before .before .before .before .before .args .clause) (c .before .before .before .clause-length .ensures) (c .before .clause-start .ensures) (c .of-show .ensures)
+returns c =
+    let a = c .before .before .before .before .before .before .before .before .before .before .before .before .before .before .before .before .before .before .before .before .args in
+    show-told (buffersOf (a .literals .now) (a .ends .now) (a .sets .now) (a .kinds .now) (a .state .now)) (c .before .before .before .before .before .before .before .before .before .before .before .read-tables .ensures .0) (c .before .before .before .before .before .before .before .before .before .before .before .read-tables .ensures .1) (c .before .before .before .before .before .before .before .before .before .before .before .read-tables .ensures .2) (c .before .before .before .before .before .before .before .read-state .ensures) (a .clause) (c .before .before .before .clause-length .ensures) (c .before .clause-start .ensures) (c .of-show .ensures)
 
 pub show-whole-spec : {M : Type 1} → statement M
 show-whole-spec =

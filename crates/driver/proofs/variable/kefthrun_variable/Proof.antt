@@ -12,13 +12,20 @@ pack-requires : tie.Need-pack-requires
 pack-requires c κs = search needs
 
 returns : tie.Need-returns
-returns c = variable-short (buffersOf (c .before .before .before .before .before .before .before .before .args .literals .now) (c .before .before .before .before .before .before .before .before .args .ends .now) (c .before .before .before .before .before .before .before .before .args .sets .now) (c .before .before .before .before .before .before .before .before .args .kinds .now) (c .before .before .before .before .before .before .before .before .args .state .now)) (c .before .before .before .before .before .before .before .before .args .variable) (c .before .before .is-whole .ensures) (c .before .if1 .taken) (c .pack .ensures)
+returns c =
+    let a = c .before .before .before .before .before .before .before .before .args in
+    variable-short (buffersOf (a .literals .now) (a .ends .now) (a .sets .now) (a .kinds .now) (a .state .now)) (a .variable) (c .before .before .is-whole .ensures) (c .before .if1 .taken) (c .pack .ensures)
 
 variable-whole-requires : tie.Need-variable-whole-requires
-variable-whole-requires c κs = let z = sizes (buffersOf (c .before .before .before .before .before .before .before .args .literals .now) (c .before .before .before .before .before .before .before .args .ends .now) (c .before .before .before .before .before .before .before .args .sets .now) (c .before .before .before .before .before .before .before .args .kinds .now) (c .before .before .before .before .before .before .before .args .state .now)) (c .before .before .before .before .before .before .before .args .state .now) (c .before .is-whole .ensures) (c .if1 .left) in (z .literals, z .ends, z .sets, z .state)
+variable-whole-requires c κs =
+    let a = c .before .before .before .before .before .before .before .args in
+    let z = sizes (buffersOf (a .literals .now) (a .ends .now) (a .sets .now) (a .kinds .now) (a .state .now)) (c .before .is-whole .ensures) (c .if1 .left) in
+    (z .literals, z .ends, z .sets, z .state)
 
 returns-2 : tie.Need-returns-2
-returns-2 c = variable-on (buffersOf (c .before .before .before .before .before .before .before .before .args .literals .now) (c .before .before .before .before .before .before .before .before .args .ends .now) (c .before .before .before .before .before .before .before .before .args .sets .now) (c .before .before .before .before .before .before .before .before .args .kinds .now) (c .before .before .before .before .before .before .before .before .args .state .now)) (c .before .before .before .before .before .before .before .before .args .variable) (c .before .before .is-whole .ensures) (c .before .if1 .left) (c .variable-whole .ensures)
+returns-2 c =
+    let a = c .before .before .before .before .before .before .before .before .args in
+    variable-on (buffersOf (a .literals .now) (a .ends .now) (a .sets .now) (a .kinds .now) (a .state .now)) (a .variable) (c .before .before .is-whole .ensures) (c .before .if1 .left) (c .variable-whole .ensures)
 
 pub kefthrun-variable-spec : {M : Type 1} → statement M
 kefthrun-variable-spec =

@@ -36,7 +36,9 @@ of-variable-requires : tie.Need-of-variable-requires
 of-variable-requires c κs = search needs
 
 returns : tie.Need-returns
-returns c = variable-told (buffersOf (c .before .before .before .before .before .before .before .before .before .before .before .before .before .before .before .before .before .before .args .literals .now) (c .before .before .before .before .before .before .before .before .before .before .before .before .before .before .before .before .before .before .args .ends .now) (c .before .before .before .before .before .before .before .before .before .before .before .before .before .before .before .before .before .before .args .sets .now) (c .before .before .before .before .before .before .before .before .before .before .before .before .before .before .before .before .before .before .args .kinds .now) (c .before .before .before .before .before .before .before .before .before .before .before .before .before .before .before .before .before .before .args .state .now)) (c .before .before .before .before .before .before .before .before .before .read-tables .ensures .0) (c .before .before .before .before .before .before .before .before .before .read-tables .ensures .1) (c .before .before .before .before .before .before .before .before .before .read-tables .ensures .2) (c .before .before .before .before .before .read-state .ensures) (c .before .before .before .before .before .before .before .before .before .before .before .before .before .before .before .before .before .before .args .variable) (c .before .variable .ensures) (c .of-variable .ensures)
+returns c =
+    let a = c .before .before .before .before .before .before .before .before .before .before .before .before .before .before .before .before .before .before .args in
+    variable-told (buffersOf (a .literals .now) (a .ends .now) (a .sets .now) (a .kinds .now) (a .state .now)) (c .before .before .before .before .before .before .before .before .before .read-tables .ensures .0) (c .before .before .before .before .before .before .before .before .before .read-tables .ensures .1) (c .before .before .before .before .before .before .before .before .before .read-tables .ensures .2) (c .before .before .before .before .before .read-state .ensures) (a .variable) (c .before .variable .ensures) (c .of-variable .ensures)
 
 pub variable-whole-spec : {M : Type 1} → statement M
 variable-whole-spec =
