@@ -14,7 +14,7 @@ use Rattle.dqbf.specs.Questions.{ClauseAnswer, clauseLength, noClause, askClaus
 use Rattle.tables.specs.Tables.{Tables, entry, modelIn}
 use Rattle.tables.specs.Unusable.{unusable, unlessRefused}
 use Rattle.tables.specs.declared.State.{State}
-use Rattle.questions.specs.Answers.{lengthAnswer, variableAnswer, shownClause, shownStart}
+use Rattle.questions.specs.Answers.{lengthAnswer, variableAnswer, shownClause}
 use Rattle.codec.specs.State.{stateIn}
 use Rattle.driver.specs.Results.{packed, clauseResult, showResult, variableResult}
 use Rattle.driver.proofs.Laws.Outcomes.{show-start}
