@@ -94,15 +94,18 @@ fn typed_calls() -> bool {
     println!("|---|---|---|---|---|");
     let mut close = true;
     for work in work::loads() {
-        close &= against_typed(work.name, Typed::Load, &work);
+        close &= against_typed(work.name, Typed::Same, &work);
     }
     let lists = work::lists();
     for list in &lists {
-        close &= against_typed(list.name, Typed::Run, &list.run(list.most));
+        close &= against_typed(list.name, Typed::Same, &list.run(list.most));
     }
-    let [record, _] = lists[0].single();
-    close &= against_typed(record.name, Typed::Run, &record);
-    close & against_typed("the same, against one typed step", Typed::Step, &record)
+    let single = lists[0].single();
+    for work in &single {
+        close &= against_typed(work.name, Typed::Same, work);
+    }
+    let name = "run of one record, against one typed step";
+    close & against_typed(name, Typed::Step, &single[0])
 }
 
 fn stacks() {
@@ -111,12 +114,13 @@ fn stacks() {
     let loads = work::loads();
     let lists = work::lists();
     let runs: Vec<Work> = lists.iter().map(|list| list.run(list.most)).collect();
-    let [_, show] = lists[0].single();
-    let shows = [show];
+    let single = lists[0].single();
     for (name, works) in [
         ("load", &loads[..]),
         ("run", &runs[..]),
-        ("show", &shows[..]),
+        ("show", &single[1..2]),
+        ("length of a clause", &single[2..3]),
+        ("kind of a variable", &single[3..]),
     ] {
         let most =
             |library: fn(&Work)| works.iter().map(|work| stack::used(|| library(work))).max();

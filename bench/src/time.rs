@@ -88,7 +88,7 @@ pub struct DriverTimes {
 fn call_typed(typed: Typed, work: &Work) -> Outcome {
     let mut lent = Lent::of(&work.start);
     let start = Instant::now();
-    let word = lent.call(typed, work.input());
+    let word = lent.call(typed, &work.call);
     (start.elapsed(), word, lent.buffers())
 }
 

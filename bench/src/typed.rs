@@ -1,38 +1,60 @@
-//! The typed calls (crates `typed_calls`, `typed_step`), and one pass over the driver's buffers.
+//! The typed calls (crates `typed_calls`, `typed_step`, `typed_questions`), and one
+//! pass over the driver's buffers.
 
 use std::hint::black_box;
 
 use checker::driver::Buffers;
 use checker::limits;
 use checker::tables::Tables;
+use differential::scenario::Call;
 
+/// Declares the functions of one type.
 macro_rules! declare {
-    ($($call:ident)*) => {
+    ($type:ident = ($($parameter:ident: $of:ty,)*); $first:ident $second:ident $third:ident) => {
+        type $type = unsafe extern "C" fn($($of),*) -> u64;
         extern "C" {
-            $(fn $call(
-                input: *const u8,
-                input_length: usize,
-                literals: *mut i16,
-                literals_length: usize,
-                ends: *mut u16,
-                ends_length: usize,
-                sets: *mut u64,
-                sets_length: usize,
-                kinds: *mut u8,
-                kinds_length: usize,
-                state: *mut u8,
-                state_length: usize,
-            ) -> u64;)*
+            fn $first($($parameter: $of),*) -> u64;
+            fn $second($($parameter: $of),*) -> u64;
+            fn $third($($parameter: $of),*) -> u64;
         }
     };
 }
 
-declare!(typed_load typed_run typed_step);
+declare!(Change = (
+    input: *const u8,
+    input_length: usize,
+    literals: *mut i16,
+    literals_length: usize,
+    ends: *mut u16,
+    ends_length: usize,
+    sets: *mut u64,
+    sets_length: usize,
+    kinds: *mut u8,
+    kinds_length: usize,
+    state: *mut u8,
+    state_length: usize,
+); typed_load typed_run typed_step);
 
+declare!(Question = (
+    literals: *const i16,
+    literals_length: usize,
+    ends: *const u16,
+    ends_length: usize,
+    sets: *const u64,
+    sets_length: usize,
+    kinds: *const u8,
+    kinds_length: usize,
+    state: *const u8,
+    state_length: usize,
+    number: u32,
+); typed_show typed_clause typed_variable);
+
+/// Which typed call stands against a driver's call.
 #[derive(Clone, Copy, PartialEq, Eq)]
 pub enum Typed {
-    Load,
-    Run,
+    /// The one that the driver makes.
+    Same,
+    /// One step, against a run of one record.
     Step,
 }
 
@@ -56,12 +78,18 @@ impl Lent {
         Buffers([literals, ends, sets, kinds, self.state.clone()])
     }
 
-    pub fn call(&mut self, typed: Typed, input: &[u8]) -> u64 {
-        let call = match typed {
-            Typed::Load => typed_load,
-            Typed::Run => typed_run,
-            Typed::Step => typed_step,
-        };
+    pub fn call(&mut self, typed: Typed, call: &Call) -> u64 {
+        match call {
+            Call::Load(text) => self.change(typed_load, text),
+            Call::Run(record) if typed == Typed::Step => self.change(typed_step, record),
+            Call::Run(records) => self.change(typed_run, records),
+            Call::Show(clause) => self.ask(typed_show, *clause),
+            Call::Clause(clause) => self.ask(typed_clause, *clause),
+            Call::Variable(variable) => self.ask(typed_variable, *variable),
+        }
+    }
+
+    fn change(&mut self, call: Change, input: &[u8]) -> u64 {
         let tables = &mut self.tables;
         // Safe: every pointer is a slice's, with its length, and no two overlap.
         unsafe {
@@ -78,6 +106,26 @@ impl Lent {
                 tables.kinds.len(),
                 self.state.as_mut_ptr(),
                 self.state.len(),
+            )
+        }
+    }
+
+    fn ask(&self, question: Question, number: u32) -> u64 {
+        let tables = &self.tables;
+        // Safe: every pointer is a slice's, with its length.
+        unsafe {
+            question(
+                tables.literals.as_ptr(),
+                tables.literals.len(),
+                tables.ends.as_ptr(),
+                tables.ends.len(),
+                tables.sets.as_ptr(),
+                tables.sets.len(),
+                tables.kinds.as_ptr(),
+                tables.kinds.len(),
+                self.state.as_ptr(),
+                self.state.len(),
+                number,
             )
         }
     }

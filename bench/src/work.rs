@@ -13,16 +13,6 @@ pub struct Work {
     pub size: usize,
 }
 
-impl Work {
-    /// The text or the records; none for a question.
-    pub fn input(&self) -> &[u8] {
-        match &self.call {
-            Call::Load(input) | Call::Run(input) => input,
-            _ => &[],
-        }
-    }
-}
-
 /// A formula and a list of equal records on it, as many as there is room for.
 pub struct List {
     pub name: &'static str,
@@ -159,8 +149,8 @@ impl List {
         }
     }
 
-    /// A run of one record, and a question, on tables that the others filled.
-    pub fn single(&self) -> [Work; 2] {
+    /// A run of one record, and the three questions, on tables that the others filled.
+    pub fn single(&self) -> [Work; 4] {
         let mut full = self.start();
         full.run(&bytes_of(&vec![self.record; self.most - 1]));
         let work = |name, call| Work {
@@ -169,12 +159,15 @@ impl List {
             call,
             size: 1,
         };
+        let last = self.most as u32;
         [
             work(
                 "run of one record, full tables",
                 Call::Run(bytes_of(&[self.record])),
             ),
-            work("show, full tables", Call::Show(self.most as u32)),
+            work("show, full tables", Call::Show(last)),
+            work("length of a clause, full tables", Call::Clause(last)),
+            work("kind of a variable, full tables", Call::Variable(1)),
         ]
     }
 }

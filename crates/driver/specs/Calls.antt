@@ -1,7 +1,7 @@
 -- The exported calls over the driver's buffers: decode, the typed call's own definition, encode (document 01, "The solver's driver is C++").
 -- "too few bytes in any of them is 1, and nothing lent is changed then, except that a load zeroes a state lent whole."
--- Offers `After`, `loadBytes`, `runBytes`, and the results of the calls that write nothing: `showBytes`, `clauseBytes`, `variableBytes`; `loadWhole` and its like are
--- those over buffers that are long enough.
+-- Offers `After`, `loadBytes`, `runBytes`, and the results of the calls that write nothing: `showBytes`, `clauseBytes`, `variableBytes`; `loadWhole` and `runWhole`
+-- are those over buffers that are long enough.
 use mathlib.Core.Bool.{cond}
 use mathlib.Core.List.{List}
 use Prim.Native.Nat.{ℕ}
@@ -55,20 +55,12 @@ runBytes b records = cond (whole b) (runWhole b records) (runShort b)
 
 -- ---- calls that write nothing
 
-abbrev pub showWhole : Buffers → ℕ → ℕ
-showWhole b c = showResult (shownStart (tablesIn b) (stateIn b) c) (lengthAnswer (tablesIn b) (stateIn b) c)
-
 unfoldable pub showBytes : Buffers → ℕ → ℕ
-showBytes b c = cond (whole b) (showWhole b c) (showResult 0 (noClause (refusal 1)))
-
-abbrev pub clauseWhole : Buffers → ℕ → ℕ
-clauseWhole b c = clauseResult (lengthAnswer (tablesIn b) (stateIn b) c)
+showBytes b c =
+    cond (whole b) (showResult (shownStart (tablesIn b) (stateIn b) c) (lengthAnswer (tablesIn b) (stateIn b) c)) (showResult 0 (noClause (refusal 1)))
 
 unfoldable pub clauseBytes : Buffers → ℕ → ℕ
-clauseBytes b c = cond (whole b) (clauseWhole b c) (clauseResult (noClause (refusal 1)))
-
-abbrev pub variableWhole : Buffers → ℕ → ℕ
-variableWhole b x = variableResult (variableAnswer (tablesIn b) (stateIn b) x)
+clauseBytes b c = cond (whole b) (clauseResult (lengthAnswer (tablesIn b) (stateIn b) c)) (clauseResult (noClause (refusal 1)))
 
 unfoldable pub variableBytes : Buffers → ℕ → ℕ
-variableBytes b x = cond (whole b) (variableWhole b x) (variableResult (noVariable (refusal 1)))
+variableBytes b x = cond (whole b) (variableResult (variableAnswer (tablesIn b) (stateIn b) x)) (variableResult (noVariable (refusal 1)))

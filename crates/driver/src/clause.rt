@@ -1,16 +1,15 @@
 // The exported question about the length of a clause.
 ghost use mathlib.Core.Path.{_≡_};
-ghost use Prim.Native.Nat.{_≤_};
-ghost use lib.ListN.{length};
 ghost use Rattle.driver.specs.Buffers.{buffersOf};
-ghost use Rattle.driver.specs.Calls.{clauseBytes, clauseWhole};
+ghost use Rattle.driver.specs.Calls.{clauseBytes};
 use super::buffers;
 use super::result;
 use codec::state as state_codec;
 use tables::ClauseNumber;
 
-// Of buffers that are long enough.
-fn clause_whole(
+// The length of a clause.
+#[no_mangle]
+pub extern "C" fn kefthrun_clause(
     literals: &[u8],
     ends: &[u8],
     sets: &[u8],
@@ -18,9 +17,11 @@ fn clause_whole(
     state: &[u8],
     clause: u32,
 ) -> u64
-    requires { ⌜ (16384 ≤ length (now literals)) × (4096 ≤ length (now ends)) × (4096 ≤ length (now sets)) × (16 ≤ length (now state)) ⌝ }
-    ensures { λ r. ⌜ r ≡ clauseWhole (buffersOf (now (literals .entry)) (now (ends .entry)) (now (sets .entry)) (now (kinds .entry)) (now (state .entry))) clause ⌝ }
+    ensures { λ r. ⌜ r ≡ clauseBytes (buffersOf (now (literals .entry)) (now (ends .entry)) (now (sets .entry)) (now (kinds .entry)) (now (state .entry))) clause ⌝ }
 {
+    if !buffers::is_whole(literals, ends, sets, kinds, state) {
+        return result::pack(1, 1, 0);
+    }
     let mut literal_table = [0i16; 8192];
     let mut end_table = [0u16; 2048];
     let mut set_table = [0u64; 512];
@@ -43,22 +44,4 @@ fn clause_whole(
         number,
     );
     result::of_clause(answer)
-}
-
-// The length of a clause.
-#[no_mangle]
-pub extern "C" fn kefthrun_clause(
-    literals: &[u8],
-    ends: &[u8],
-    sets: &[u8],
-    kinds: &[u8],
-    state: &[u8],
-    clause: u32,
-) -> u64
-    ensures { λ r. ⌜ r ≡ clauseBytes (buffersOf (now (literals .entry)) (now (ends .entry)) (now (sets .entry)) (now (kinds .entry)) (now (state .entry))) clause ⌝ }
-{
-    if !buffers::is_whole(literals, ends, sets, kinds, state) {
-        return result::pack(1, 1, 0);
-    }
-    clause_whole(literals, ends, sets, kinds, state, clause)
 }

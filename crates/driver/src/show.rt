@@ -1,16 +1,15 @@
 // The exported show: an exported function returns no reference, so that it tells place and length in the caller's own literals.
 ghost use mathlib.Core.Path.{_≡_};
-ghost use Prim.Native.Nat.{_≤_};
-ghost use lib.ListN.{length};
 ghost use Rattle.driver.specs.Buffers.{buffersOf};
-ghost use Rattle.driver.specs.Calls.{showBytes, showWhole};
+ghost use Rattle.driver.specs.Calls.{showBytes};
 use super::buffers;
 use super::result;
 use codec::state as state_codec;
 use tables::ClauseNumber;
 
-// Of buffers that are long enough.
-fn show_whole(
+// Where a clause stands in the literals.
+#[no_mangle]
+pub extern "C" fn kefthrun_show(
     literals: &[u8],
     ends: &[u8],
     sets: &[u8],
@@ -18,9 +17,11 @@ fn show_whole(
     state: &[u8],
     clause: u32,
 ) -> u64
-    requires { ⌜ (16384 ≤ length (now literals)) × (4096 ≤ length (now ends)) × (4096 ≤ length (now sets)) × (16 ≤ length (now state)) ⌝ }
-    ensures { λ r. ⌜ r ≡ showWhole (buffersOf (now (literals .entry)) (now (ends .entry)) (now (sets .entry)) (now (kinds .entry)) (now (state .entry))) clause ⌝ }
+    ensures { λ r. ⌜ r ≡ showBytes (buffersOf (now (literals .entry)) (now (ends .entry)) (now (sets .entry)) (now (kinds .entry)) (now (state .entry))) clause ⌝ }
 {
+    if !buffers::is_whole(literals, ends, sets, kinds, state) {
+        return result::pack(1, 1, 0);
+    }
     let mut literal_table = [0i16; 8192];
     let mut end_table = [0u16; 2048];
     let mut set_table = [0u64; 512];
@@ -44,22 +45,4 @@ fn show_whole(
     );
     let start = buffers::clause_start(&end_table, clause);
     result::of_show(start, answer)
-}
-
-// Where a clause stands in the literals.
-#[no_mangle]
-pub extern "C" fn kefthrun_show(
-    literals: &[u8],
-    ends: &[u8],
-    sets: &[u8],
-    kinds: &[u8],
-    state: &[u8],
-    clause: u32,
-) -> u64
-    ensures { λ r. ⌜ r ≡ showBytes (buffersOf (now (literals .entry)) (now (ends .entry)) (now (sets .entry)) (now (kinds .entry)) (now (state .entry))) clause ⌝ }
-{
-    if !buffers::is_whole(literals, ends, sets, kinds, state) {
-        return result::pack(1, 1, 0);
-    }
-    show_whole(literals, ends, sets, kinds, state, clause)
 }

@@ -1,42 +1,11 @@
 // The exported question about kind and set size of a variable.
 ghost use mathlib.Core.Path.{_≡_};
-ghost use Prim.Native.Nat.{_≤_};
-ghost use lib.ListN.{length};
 ghost use Rattle.driver.specs.Buffers.{buffersOf};
-ghost use Rattle.driver.specs.Calls.{variableBytes, variableWhole};
+ghost use Rattle.driver.specs.Calls.{variableBytes};
 use super::buffers;
 use super::result;
 use codec::state as state_codec;
 use tables::VariableNumber;
-
-// Of buffers that are long enough.
-fn variable_whole(
-    literals: &[u8],
-    ends: &[u8],
-    sets: &[u8],
-    kinds: &[u8],
-    state: &[u8],
-    variable: u32,
-) -> u64
-    requires { ⌜ (16384 ≤ length (now literals)) × (4096 ≤ length (now ends)) × (4096 ≤ length (now sets)) × (16 ≤ length (now state)) ⌝ }
-    ensures { λ r. ⌜ r ≡ variableWhole (buffersOf (now (literals .entry)) (now (ends .entry)) (now (sets .entry)) (now (kinds .entry)) (now (state .entry))) variable ⌝ }
-{
-    let mut literal_table = [0i16; 8192];
-    let mut end_table = [0u16; 2048];
-    let mut set_table = [0u64; 512];
-    buffers::read_tables(
-        &mut literal_table,
-        &mut end_table,
-        &mut set_table,
-        literals,
-        ends,
-        sets,
-    );
-    let held = state_codec::read_state(state);
-    let number = VariableNumber(variable);
-    let answer = questions::variable(&literal_table, &end_table, &set_table, kinds, held, number);
-    result::of_variable(answer)
-}
 
 // Kind and number of universals of a variable.
 #[no_mangle]
@@ -53,5 +22,19 @@ pub extern "C" fn kefthrun_variable(
     if !buffers::is_whole(literals, ends, sets, kinds, state) {
         return result::pack(1, 1, 0);
     }
-    variable_whole(literals, ends, sets, kinds, state, variable)
+    let mut literal_table = [0i16; 8192];
+    let mut end_table = [0u16; 2048];
+    let mut set_table = [0u64; 512];
+    buffers::read_tables(
+        &mut literal_table,
+        &mut end_table,
+        &mut set_table,
+        literals,
+        ends,
+        sets,
+    );
+    let held = state_codec::read_state(state);
+    let number = VariableNumber(variable);
+    let answer = questions::variable(&literal_table, &end_table, &set_table, kinds, held, number);
+    result::of_variable(answer)
 }

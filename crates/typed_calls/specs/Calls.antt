@@ -1,5 +1,5 @@
 -- The typed load and run with their state in bytes and their answer in a number. A state of too few bytes is 1, and nothing changes then.
--- Offers `After`, `refused`, `typedLoad`, `typedRun`.
+-- Offers `After`, `after`, `typedLoad`, `typedRun`.
 use mathlib.Core.Bool.{cond}
 use mathlib.Core.List.{List}
 use Prim.Native.Nat.{ℕ}
@@ -21,17 +21,17 @@ pub record After : Type 0 where
   pub state : List ℕ
   pub result : ℕ
 
-unfoldable pub refused : Tables → List ℕ → ℕ → After
-refused t s number = record { tables = t; state = s; result = number }
+abbrev pub after : Tables → List ℕ → ℕ → After
+after t s number = record { tables = t; state = s; result = number }
 
 unfoldable pub loaded : List ℕ → AfterLoad → After
-loaded s l = record { tables = l .tables; state = over (stateBytes (l .state)) s; result = loadResult (l .answer) }
+loaded s l = after (l .tables) (over (stateBytes (l .state)) s) (loadResult (l .answer))
 
 unfoldable pub typedLoad : Tables → List ℕ → List ℕ → After
-typedLoad t s text = cond (leb stateSize (length s)) (loaded s (loadOf t text)) (refused t s (loadResult (Load.Refused 0 1)))
+typedLoad t s text = cond (leb stateSize (length s)) (loaded s (loadOf t text)) (after t s (loadResult (Load.Refused 0 1)))
 
 unfoldable pub ran : List ℕ → AfterRun → After
-ran s r = record { tables = r .tables; state = over (stateBytes (r .state)) s; result = runResult (r .answer) }
+ran s r = after (r .tables) (over (stateBytes (r .state)) s) (runResult (r .answer))
 
 unfoldable pub typedRun : Tables → List ℕ → List ℕ → After
-typedRun t s records = cond (leb stateSize (length s)) (ran s (runOf t (stateIn s) records)) (refused t s (runResult (Run.Bad (record { 0 = 0 }) 1)))
+typedRun t s records = cond (leb stateSize (length s)) (ran s (runOf t (stateIn s) records)) (after t s (runResult (Run.Bad (record { 0 = 0 }) 1)))

@@ -1,7 +1,7 @@
 // The typed load.
 ghost use mathlib.Core.Path.{_≡_};
 ghost use Rattle.tables.specs.Tables.{tablesOf};
-ghost use Rattle.typed_calls.specs.Calls.{After, typedLoad};
+ghost use Rattle.typed_calls.specs.Calls.{after, typedLoad};
 use codec::state as state_codec;
 use driver::result;
 
@@ -15,13 +15,8 @@ pub extern "C" fn typed_load(
     kinds: &mut [u8],
     state: &mut [u8],
 ) -> u64
-    ensures { λ r. ⌜ _≡_ {A = After}
-        (record {
-          tables = tablesOf (now (literals .exit)) (now (ends .exit)) (now (sets .exit)) (now (kinds .exit));
-          state = now (state .exit);
-          result = r;
-        })
-        (typedLoad (tablesOf (now (literals .entry)) (now (ends .entry)) (now (sets .entry)) (now (kinds .entry))) (now (state .entry)) (now (text .entry))) ⌝ }
+    ensures { λ r. ⌜ after (tablesOf (now (literals .exit)) (now (ends .exit)) (now (sets .exit)) (now (kinds .exit))) (now (state .exit)) r
+        ≡ typedLoad (tablesOf (now (literals .entry)) (now (ends .entry)) (now (sets .entry)) (now (kinds .entry))) (now (state .entry)) (now (text .entry)) ⌝ }
 {
     if state.len() < 16 {
         return result::pack(1, 0, 1);

@@ -1,7 +1,7 @@
 // The typed run.
 ghost use mathlib.Core.Path.{_≡_};
 ghost use Rattle.tables.specs.Tables.{tablesOf};
-ghost use Rattle.typed_calls.specs.Calls.{After, typedRun};
+ghost use Rattle.typed_calls.specs.Calls.{after, typedRun};
 use codec::state as state_codec;
 use driver::result;
 use steps::run;
@@ -16,13 +16,8 @@ pub extern "C" fn typed_run(
     kinds: &mut [u8],
     state: &mut [u8],
 ) -> u64
-    ensures { λ r. ⌜ _≡_ {A = After}
-        (record {
-          tables = tablesOf (now (literals .exit)) (now (ends .exit)) (now (sets .exit)) (now (kinds .exit));
-          state = now (state .exit);
-          result = r;
-        })
-        (typedRun (tablesOf (now (literals .entry)) (now (ends .entry)) (now (sets .entry)) (now (kinds .entry))) (now (state .entry)) (now (records .entry))) ⌝ }
+    ensures { λ r. ⌜ after (tablesOf (now (literals .exit)) (now (ends .exit)) (now (sets .exit)) (now (kinds .exit))) (now (state .exit)) r
+        ≡ typedRun (tablesOf (now (literals .entry)) (now (ends .entry)) (now (sets .entry)) (now (kinds .entry))) (now (state .entry)) (now (records .entry)) ⌝ }
 {
     if state.len() < 16 {
         return result::pack(2, 0, 1);

@@ -13,7 +13,7 @@ use Rattle.codec.specs.Bytes.{over}
 use Rattle.codec.specs.State.{stateIn, stateBytes}
 use Rattle.driver.specs.Buffers.{stateSize}
 use Rattle.driver.specs.Results.{packed}
-use Rattle.typed_calls.specs.Calls.{After, refused}
+use Rattle.typed_calls.specs.Calls.{After, after}
 
 -- 0: accepted; 1: refused with its number
 unfoldable pub stepResult : StepAnswer → ℕ
@@ -21,7 +21,7 @@ stepResult Step.Accepted = packed 0 0 0
 stepResult (Step.Refused number) = packed 1 number 0
 
 unfoldable pub stepped : List ℕ → AfterStep → After
-stepped s x = record { tables = x .tables; state = over (stateBytes (x .state)) s; result = stepResult (x .answer) }
+stepped s x = after (x .tables) (over (stateBytes (x .state)) s) (stepResult (x .answer))
 
 unfoldable pub typedStep : Tables → List ℕ → List ℕ → After
-typedStep t s bytes = cond (leb stateSize (length s)) (stepped s (stepOf t (stateIn s) bytes)) (refused t s (stepResult (Step.Refused 1)))
+typedStep t s bytes = cond (leb stateSize (length s)) (stepped s (stepOf t (stateIn s) bytes)) (after t s (stepResult (Step.Refused 1)))

@@ -2,7 +2,7 @@
 // It has an archive of its own: beside the typed run, code that the driver's run has inlined would be shared by two calls, and the run slower by it.
 ghost use mathlib.Core.Path.{_≡_};
 ghost use Rattle.tables.specs.Tables.{tablesOf};
-ghost use Rattle.typed_calls.specs.Calls.{After};
+ghost use Rattle.typed_calls.specs.Calls.{after};
 ghost use Rattle.typed_step.specs.Calls.{stepResult, typedStep};
 use additions::StepAnswer;
 use codec::state as state_codec;
@@ -28,13 +28,8 @@ pub extern "C" fn typed_step(
     kinds: &mut [u8],
     state: &mut [u8],
 ) -> u64
-    ensures { λ r. ⌜ _≡_ {A = After}
-        (record {
-          tables = tablesOf (now (literals .exit)) (now (ends .exit)) (now (sets .exit)) (now (kinds .exit));
-          state = now (state .exit);
-          result = r;
-        })
-        (typedStep (tablesOf (now (literals .entry)) (now (ends .entry)) (now (sets .entry)) (now (kinds .entry))) (now (state .entry)) (now (bytes .entry))) ⌝ }
+    ensures { λ r. ⌜ after (tablesOf (now (literals .exit)) (now (ends .exit)) (now (sets .exit)) (now (kinds .exit))) (now (state .exit)) r
+        ≡ typedStep (tablesOf (now (literals .entry)) (now (ends .entry)) (now (sets .entry)) (now (kinds .entry))) (now (state .entry)) (now (bytes .entry)) ⌝ }
 {
     if state.len() < 16 {
         return result::pack(1, 1, 0);

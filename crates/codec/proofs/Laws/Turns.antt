@@ -2,7 +2,7 @@
 use mathlib.Core.Path.{_≡_, refl, ap, sym, _∙_}
 use mathlib.Core.List.{List, [], _∷_, _++_, append-assoc, append-nil, map}
 use Prim.Native.Nat.{ℕ, suc, _+_, _-_, _*_, _/_, _%_, _<_, _≤_}
-use native.Mathlib.Nat.{mul-suc, sub-zero, mul-le-mul-left, add-comm, add-sub-cancel-left, le-add-right, le-of-lt, le-trans}
+use native.Mathlib.Nat.{sub-zero, add-comm, add-sub-cancel-left, le-add-right, le-of-lt}
 use native.Mathlib.Numerals.{add-one}
 use native.Mathlib.Omega.{arith}
 use borrow.Rule.Slice.PartMut.{putMid, post-is}
@@ -64,19 +64,18 @@ module _ {A : Type 0} (to to₀ from : List A) (i : ℕ) (e : to ≡ take i from
 lent-part : (w i : ℕ) → w * i + w - w * i ≡ w
 lent-part w i = add-sub-cancel-left (w * i) w
 
-pub entry-read : (w n : ℕ) (b : List ℕ) (i : ℕ) → i < n → {v : ℕ} → v ≡ number (take (w * i + w - w * i) (drop (w * i) b)) → v ≡ getD (entries w n b) i 0
-entry-read w n b i h e = e ∙ ap (λ k. number (take k (drop (w * i) b))) (lent-part w i) ∙ entries-at w n b i h
+pub entry-part : (w i : ℕ) (b : List ℕ) {v : ℕ} → v ≡ number (take (w * i + w - w * i) (drop (w * i) b)) → v ≡ number (take w (drop (w * i) b))
+entry-part w i b e = e ∙ ap (λ k. number (take k (drop (w * i) b))) (lent-part w i)
 
 -- two bytes make 16 bits
-pub entry-fits : (b : List ℕ) (i : ℕ) → Bytes b → {v : ℕ} → v ≡ number (take (2 * i + 2 - 2 * i) (drop (2 * i) b)) → v < 65536
+pub entry-fits : (b : List ℕ) (i : ℕ) → Bytes b → {v : ℕ} → v ≡ number (take 2 (drop (2 * i) b)) → v < 65536
 entry-fits b i bytes e =
-    let part = take (2 * i + 2 - 2 * i) (drop (2 * i) b) in
-    let short : length part ≤ 2 = omega (arith, length-take (2 * i + 2 - 2 * i) (drop (2 * i) b)) in
-    rw e (number-fits 2 part short (front-bytes (2 * i + 2 - 2 * i) (drop (2 * i) b) (rest-bytes (2 * i) b bytes)))
+    let short : length (take 2 (drop (2 * i) b)) ≤ 2 = omega (arith, length-take 2 (drop (2 * i) b)) in
+    rw e (number-fits 2 (take 2 (drop (2 * i) b)) short (front-bytes 2 (drop (2 * i) b) (rest-bytes (2 * i) b bytes)))
 
-pub literal-read : (n : ℕ) (b : List ℕ) (i : ℕ) → i < n → {v : ℕ} {l : ℤ} → v ≡ number (take (2 * i + 2 - 2 * i) (drop (2 * i) b)) → l ≡ signed v → l ≡ getD (literalsIn n b) i (pos 0)
+pub literal-read : (n : ℕ) (b : List ℕ) (i : ℕ) → i < n → {v : ℕ} {l : ℤ} → v ≡ number (take 2 (drop (2 * i) b)) → l ≡ signed v → l ≡ getD (literalsIn n b) i (pos 0)
 unfolding literalsIn signed
-literal-read n b i h e f = f ∙ ap signed (entry-read 2 n b i h e) ∙ sym (List·getD-map signed (entries 2 n b) i 0)
+literal-read n b i h e f = f ∙ ap signed (e ∙ entries-at 2 n b i h) ∙ sym (List·getD-map signed (entries 2 n b) i 0)
 
 pub literals-length : (n : ℕ) (b : List ℕ) → length (literalsIn n b) ≡ n
 unfolding literalsIn
@@ -84,14 +83,23 @@ literals-length n b = length-map (entries 2 n b) signed ∙ entries-length 2 n b
 
 -- ---- a table that is written into bytes
 
--- a part behind a front comes back at ys
-front-part : (out out₀ X ys : List ℕ) (i j : ℕ) → i ≡ length X → i ≤ j → j ≤ length out₀ → length ys ≡ j - i → out ≡ over X out₀ → putMid i (j - i) out ys ≡ over (X ++ ys) out₀
+-- one entry is written where its bytes are lent
+abbrev pub entryPut : ℕ → ℕ → ℕ → List ℕ → List ℕ
+entryPut w i x out = take (w * i) out ++ (digits w x ++ drop (w * i + w) out)
+
+pub entry-put : (w i x : ℕ) (out : List ℕ) {ys : List ℕ} → w * i + w ≤ length out → ys ≡ digits (length (take (w * i + w - w * i) (drop (w * i) out))) x
+    → putMid (w * i) (w * i + w - w * i) out ys ≡ entryPut w i x out
+entry-put w i x out {ys} h e =
+    let lent : length (take (w * i + w - w * i) (drop (w * i) out)) ≡ w = part-length out (w * i) (w * i + w) (le-add-right (w * i) w) h ∙ lent-part w i in
+    rw (post-is (w * i) (w * i + w) out (le-add-right (w * i) w), rw lent at e)
+
+-- bytes behind a front
+front-more : (out out₀ X ys : List ℕ) (i j : ℕ) → i ≡ length X → i ≤ j → length ys ≡ j - i → out ≡ over X out₀ → take i out ++ (ys ++ drop j out) ≡ over (X ++ ys) out₀
 unfolding over
-front-part out out₀ X ys i j e h k l f =
+front-more out out₀ X ys i j e h l f =
     let front : take i out ≡ X = rw f (take-at X (drop (length X) out₀) i (sym e)) in
     let total : length (X ++ ys) ≡ j = length-append X ys ∙ omega arith in
-    let rest : drop j out ≡ drop j out₀ = rest-stays in
-    rw (front, post-is i j out h, rest, total) (sym (append-assoc X ys (drop j out₀)))
+    rw (front, rest-stays, total) (sym (append-assoc X ys (drop j out₀)))
   where
     more : length X + (j - length X) ≡ j
     more = omega arith
@@ -102,20 +110,13 @@ front-part out out₀ X ys i j e h k l f =
         ∙ drop-drop (j - length X) (length X) out₀ ∙ ap (λ n. drop n out₀) more
 
 -- the bytes of one more entry
-pub table-more : (w : ℕ) (out out₀ xs : List ℕ) (i : ℕ) (x : ℕ) {ys : List ℕ} → i < length xs → w * length xs ≤ length out₀ → length out ≡ length out₀ → x ≡ getD xs i 0
-    → out ≡ over (bytesOf w (take i xs)) out₀ → ys ≡ digits (length (take (w * i + w - w * i) (drop (w * i) out))) x
-    → putMid (w * i) (w * i + w - w * i) out ys ≡ over (bytesOf w (take (i + 1) xs)) out₀
-table-more w out out₀ xs i x {ys} h room same q e f =
-    let all : w * suc i ≤ w * length xs = mul-le-mul-left w h in
-    let end : w * i + w ≤ length out₀ = rw (← mul-suc w i) (le-trans all room) in
-    let there : w * i + w ≤ length out = rw same end in
-    let lent : length (take (w * i + w - w * i) (drop (w * i) out)) ≡ w = part-length out (w * i) (w * i + w) (le-add-right (w * i) w) there ∙ lent-part w i in
-    let written : ys ≡ digits w (getD xs i 0) = rw (lent, q) at f in
-    let long : length ys ≡ w * i + w - w * i = ap length written ∙ digits-length w (getD xs i 0) ∙ sym (lent-part w i) in
+pub table-more : (w : ℕ) (out out₀ xs : List ℕ) (i : ℕ) (x : ℕ) {next : List ℕ} → i < length xs → x ≡ getD xs i 0 → out ≡ over (bytesOf w (take i xs)) out₀ → next ≡ entryPut w i x out
+    → next ≡ over (bytesOf w (take (i + 1) xs)) out₀
+table-more w out out₀ xs i x h q e f =
     let front : w * i ≡ length (bytesOf w (take i xs)) = sym (bytes-length w (take i xs) ∙ ap (λ n. w * n) (length-take-le i xs (le-of-lt h))) in
-    let more : bytesOf w (take i xs) ++ ys ≡ bytesOf w (take (i + 1) xs) =
-    rw (written, add-one i, take-suc xs i 0 h) (sym (bytes-behind w (take i xs) (getD xs i 0))) in
-    front-part out out₀ (bytesOf w (take i xs)) ys (w * i) (w * i + w) front (le-add-right (w * i) w) end long e ∙ ap (λ front. over front out₀) more
+    let long : length (digits w x) ≡ w * i + w - w * i = digits-length w x ∙ sym (lent-part w i) in
+    let more : bytesOf w (take i xs) ++ digits w x ≡ bytesOf w (take (i + 1) xs) = rw (q, add-one i, take-suc xs i 0 h) (sym (bytes-behind w (take i xs) (getD xs i 0))) in
+    f ∙ front-more out out₀ (bytesOf w (take i xs)) (digits w x) (w * i) (w * i + w) front (le-add-right (w * i) w) long e ∙ ap (λ front. over front out₀) more
 
 pub table-end : (w : ℕ) (out out₀ xs : List ℕ) (i : ℕ) → i ≤ length xs → length xs ≤ i → out ≡ over (bytesOf w (take i xs)) out₀ → out ≡ over (bytesOf w xs) out₀
 table-end w out out₀ xs i h k e = e ∙ ap (λ l. over (bytesOf w l) out₀) (take-all i xs k)
@@ -125,13 +126,10 @@ unfolding over bytesOf
 table-start w out xs = refl
 
 -- of literals, by their bits
-pub literals-more : (out out₀ : List ℕ) (ls : List ℤ) (i x : ℕ) {ys : List ℕ} → i < length ls → 2 * length ls ≤ length out₀ → length out ≡ length out₀ → x ≡ bits (getD ls i (pos 0))
-    → out ≡ over (bytesOf 2 (take i (map bits ls))) out₀ → ys ≡ digits (length (take (2 * i + 2 - 2 * i) (drop (2 * i) out))) x
-    → putMid (2 * i) (2 * i + 2 - 2 * i) out ys ≡ over (bytesOf 2 (take (i + 1) (map bits ls))) out₀
+pub literals-more : (out out₀ : List ℕ) (ls : List ℤ) (i x : ℕ) {next : List ℕ} → i < length ls → x ≡ bits (getD ls i (pos 0)) → out ≡ over (bytesOf 2 (take i (map bits ls))) out₀
+    → next ≡ entryPut 2 i x out → next ≡ over (bytesOf 2 (take (i + 1) (map bits ls))) out₀
 unfolding bits
-literals-more out out₀ ls i x h room same q e f =
-    let n = length-map ls bits in
-    table-more 2 out out₀ (map bits ls) i x (rw n h) (rw n room) same (q ∙ sym (List·getD-map bits ls i (pos 0))) e f
+literals-more out out₀ ls i x h q e f = table-more 2 out out₀ (map bits ls) i x (rw (length-map ls bits) h) (q ∙ sym (List·getD-map bits ls i (pos 0))) e f
 
 pub literals-end : (out out₀ : List ℕ) (ls : List ℤ) (i : ℕ) → i ≤ length ls → length ls ≤ i → out ≡ over (bytesOf 2 (take i (map bits ls))) out₀ → out ≡ over (literalBytes ls) out₀
 unfolding literalBytes bits

@@ -68,6 +68,10 @@ whole-sizes b e =
       state = leb-true 16 (length (b .state)) (at 4);
     }
 
+-- where the test of the sizes passes
+pub sizes : (b : Buffers) {a : Bool} → a ≡ whole b → not a ≡ false → Sizes b
+sizes b {a} told h = whole-sizes b (sym told ∙ not-false a h)
+
 pub sizes-whole : (b : Buffers) → Sizes b → whole b ≡ true
 sizes-whole b z = sym (whole-last b (z .literals) (z .ends) (z .sets) (z .kinds)) ∙ le-leb 16 (length (b .state)) (z .state)
 
@@ -89,9 +93,6 @@ module _ (b : Buffers) (records : List ℕ) {a : Bool} (told : a ≡ whole b) wh
   pub run-short : {r : ℕ} → not a ≡ true → r ≡ packed 2 0 1 → _≡_ {A = After} (record { buffers = b; result = r }) (runBytes b records)
   unfolding runBytes runShort runResult
   run-short h e = rw (← told, not-true a h, e)
-
-  pub sizes : not a ≡ false → Sizes b
-  sizes h = whole-sizes b (sym told ∙ not-false a h)
 
   pub run-on : not a ≡ false → {x : After} → x ≡ ran b (runOf (tablesIn b) (stateIn b) records) → x ≡ runBytes b records
   unfolding runBytes
@@ -156,7 +157,7 @@ module _ (b : Buffers) (text : List ℕ) (kinds-room : 512 ≤ length (b .kinds)
 -- ---- calls that write nothing
 
 -- where a clause is unknown its start does not count
-show-start : (t : Tables) (s : State) (n : ℕ) → showResult (entry (t .ends) (n - 1)) (lengthAnswer t s n) ≡ showResult (shownStart t s n) (lengthAnswer t s n)
+pub show-start : (t : Tables) (s : State) (n : ℕ) → showResult (entry (t .ends) (n - 1)) (lengthAnswer t s n) ≡ showResult (shownStart t s n) (lengthAnswer t s n)
 unfolding lengthAnswer shownStart unlessRefused askClause showResult
 show-start t s n = go (unusable t s) (unknown (modelIn t s) n)
   where
@@ -181,36 +182,24 @@ module _ (b : Buffers) (n : ℕ) {a : Bool} (told : a ≡ whole b) where
     unfolding variableBytes variableResult
     variable-short = rw (← told, not-true a h) e
 
-  module _ {r : ℕ} (h : not a ≡ false) where
-    pub clause-on : r ≡ clauseResult (lengthAnswer (tablesIn b) (stateIn b) n) → r ≡ clauseBytes b n
+  module _ (h : not a ≡ false) {l : List ℤ} {e w : List ℕ} {s : State} (p : l ≡ literalsIn literalLimit (b .literals)) (q : e ≡ entries 2 clauseLimit (b .ends))
+      (u : w ≡ entries 8 variableLimit (b .sets)) (v : s ≡ Codec.stateIn (b .state)) where
+    -- an answer about decoded tables is one about the tables in the buffers
+    held-answer : {A : Type 0} (f : Tables → State → ℕ → A) {x : A} → x ≡ f (tablesOf l e w (b .kinds)) s n → x ≡ f (tablesIn b) (stateIn b) n
+    unfolding tablesIn stateIn
+    held-answer f i = rw (p, q, u, v) at i
+
+    pub clause-told : {x : ClauseAnswer} {r : ℕ} → x ≡ lengthAnswer (tablesOf l e w (b .kinds)) s n → r ≡ clauseResult x → r ≡ clauseBytes b n
     unfolding clauseBytes
-    clause-on e = rw (← told, not-false a h) e
+    clause-told i g = rw (← told, not-false a h) (g ∙ ap clauseResult (held-answer lengthAnswer i))
 
-    pub show-on : r ≡ showResult (shownStart (tablesIn b) (stateIn b) n) (lengthAnswer (tablesIn b) (stateIn b) n) → r ≡ showBytes b n
-    unfolding showBytes
-    show-on e = rw (← told, not-false a h) e
-
-    pub variable-on : r ≡ variableResult (variableAnswer (tablesIn b) (stateIn b) n) → r ≡ variableBytes b n
+    pub variable-told : {x : VariableAnswer} {r : ℕ} → x ≡ variableAnswer (tablesOf l e w (b .kinds)) s n → r ≡ variableResult x → r ≡ variableBytes b n
     unfolding variableBytes
-    variable-on e = rw (← told, not-false a h) e
+    variable-told i g = rw (← told, not-false a h) (g ∙ ap variableResult (held-answer variableAnswer i))
 
-module _ (b : Buffers) {l : List ℤ} {e w : List ℕ} {s : State} (p : l ≡ literalsIn literalLimit (b .literals)) (q : e ≡ entries 2 clauseLimit (b .ends))
-    (u : w ≡ entries 8 variableLimit (b .sets)) (v : s ≡ Codec.stateIn (b .state)) (n : ℕ) where
-  -- an answer about decoded tables is one about the tables in the buffers
-  held-answer : {A : Type 0} (f : Tables → State → ℕ → A) {x : A} → x ≡ f (tablesOf l e w (b .kinds)) s n → x ≡ f (tablesIn b) (stateIn b) n
-  unfolding tablesIn stateIn
-  held-answer f h = rw (p, q, u, v) at h
-
-  pub clause-told : {x : ClauseAnswer} {r : ℕ} → x ≡ lengthAnswer (tablesOf l e w (b .kinds)) s n → r ≡ clauseResult x → r ≡ clauseResult (lengthAnswer (tablesIn b) (stateIn b) n)
-  clause-told h g = g ∙ ap clauseResult (held-answer lengthAnswer h)
-
-  pub variable-told : {x : VariableAnswer} {r : ℕ} → x ≡ variableAnswer (tablesOf l e w (b .kinds)) s n → r ≡ variableResult x → r ≡ variableResult (variableAnswer (tablesIn b) (stateIn b) n)
-  variable-told h g = g ∙ ap variableResult (held-answer variableAnswer h)
-
-  pub show-told : {x : ClauseAnswer} {start r : ℕ} → x ≡ lengthAnswer (tablesOf l e w (b .kinds)) s n → start ≡ entry e (n - 1) → r ≡ showResult start x
-      → r ≡ showResult (shownStart (tablesIn b) (stateIn b) n) (lengthAnswer (tablesIn b) (stateIn b) n)
-  unfolding tablesIn
-  show-told h k g = g ∙ rw (held-answer lengthAnswer h, k, q) (show-start (tablesIn b) (stateIn b) n)
+    pub show-told : {x : ClauseAnswer} {start r : ℕ} → x ≡ lengthAnswer (tablesOf l e w (b .kinds)) s n → start ≡ entry e (n - 1) → r ≡ showResult start x → r ≡ showBytes b n
+    unfolding showBytes tablesIn
+    show-told i k g = rw (← told, not-false a h) (g ∙ rw (held-answer lengthAnswer i, k, q) (show-start (tablesIn b) (stateIn b) n))
 
 -- ---- a state of zeros
 

@@ -1,33 +1,25 @@
+-- `typed_step::of_step` meets its contract.
 use borrow.Author.Needs.{needs}
 use Rattle.typed_step.specs.Calls.{stepResult}
 use Rattle.typed_step.proofs.of_step.Statement.{statement}
 use Rattle.typed_step.proofs.of_step.Tie as tie
-use Rattle.typed_step.proofs.of_step.Reads as reads
-use Rattle.typed_step.proofs.of_step.Lts as lts
-use Rattle.driver.proofs.result.pack.Reads as pack-reads
 
--- src/step.rt:14:33
 enum-told : tie.Need-enum-told
 enum-told c = search needs
 
--- src/step.rt:14:33
 pack-requires : tie.Need-pack-requires
 pack-requires c κs = search needs
 
--- src/step.rt:15:29
 enum-known-answer : tie.Need-enum-known-answer
 enum-known-answer c = search needs
 
--- src/step.rt:15:40
 pack-requires-2 : tie.Need-pack-requires-2
 pack-requires-2 c κs = search needs
 
--- src/step.rt:10:1
 returns : tie.Need-returns
 unfolding stepResult
 returns c = rw (c .before .enum-told .given .1) (c .pack .ensures)
 
--- src/step.rt:10:1
 returns-2 : tie.Need-returns-2
 unfolding stepResult
 returns-2 c = rw (c .before .before .answer .given .1) (c .pack2 .ensures)
