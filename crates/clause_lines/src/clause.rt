@@ -23,6 +23,8 @@ use prefix_lines::refusal;
 use tables::VariableNumber;
 use tables::adding;
 use tables::entries;
+use tables::limits::LITERAL_LIMIT;
+use tables::limits::WIDTH_LIMIT;
 
 // Whether the variable of each rank is declared.
 fn all_declared(ranks: &[u32], kinds: &[u8]) -> bool
@@ -82,13 +84,13 @@ pub fn clause_line(
     if progress.phase == progress::OPENING {
         return progress::refused(progress, refusal::NO_FORM);
     }
-    let mut sorted = [0u32; 33];
-    let width = order::insert_all(ranks, ranks.len(), &mut sorted, 0, 32);
-    if width > 32 {
+    let mut sorted = [0u32; WIDTH_LIMIT + 1];
+    let width = order::insert_all(ranks, ranks.len(), &mut sorted, 0, WIDTH_LIMIT);
+    if width > WIDTH_LIMIT {
         return progress::refused(progress, refusal::OVER_LIMIT);
     }
     let state = progress.state;
-    if state.literals as usize + width > 8192 {
+    if state.literals as usize + width > LITERAL_LIMIT {
         return progress::refused(progress, refusal::OVER_LIMIT);
     }
     let bound = state.bound;

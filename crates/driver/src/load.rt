@@ -7,6 +7,9 @@ ghost use Rattle.driver.specs.Calls.{After, loadBytes, loadWhole};
 use super::buffers;
 use super::result;
 use codec::state as state_codec;
+use tables::limits::CLAUSE_LIMIT;
+use tables::limits::LITERAL_LIMIT;
+use tables::limits::VARIABLE_LIMIT;
 
 // A load into buffers that are long enough. It reads none of their entries, so that nothing is decoded.
 fn load_whole(
@@ -25,9 +28,9 @@ fn load_whole(
         })
         (loadWhole (buffersOf (now (literals .entry)) (now (ends .entry)) (now (sets .entry)) (now (kinds .entry)) (now (state .entry))) (now (text .entry))) ⌝ }
 {
-    let mut literal_table = [0i16; 8192];
-    let mut end_table = [0u16; 2048];
-    let mut set_table = [0u64; 512];
+    let mut literal_table = [0i16; LITERAL_LIMIT];
+    let mut end_table = [0u16; CLAUSE_LIMIT];
+    let mut set_table = [0u64; VARIABLE_LIMIT];
     let loaded = dqdimacs::load(
         text,
         &mut literal_table,

@@ -8,6 +8,9 @@ use super::buffers;
 use super::result;
 use codec::state as state_codec;
 use steps::run;
+use tables::limits::CLAUSE_LIMIT;
+use tables::limits::LITERAL_LIMIT;
+use tables::limits::VARIABLE_LIMIT;
 
 // A run over buffers that are long enough.
 fn run_whole(
@@ -26,9 +29,9 @@ fn run_whole(
         })
         (runWhole (buffersOf (now (literals .entry)) (now (ends .entry)) (now (sets .entry)) (now (kinds .entry)) (now (state .entry))) (now (records .entry))) ⌝ }
 {
-    let mut literal_table = [0i16; 8192];
-    let mut end_table = [0u16; 2048];
-    let mut set_table = [0u64; 512];
+    let mut literal_table = [0i16; LITERAL_LIMIT];
+    let mut end_table = [0u16; CLAUSE_LIMIT];
+    let mut set_table = [0u64; VARIABLE_LIMIT];
     buffers::read_tables(
         &mut literal_table,
         &mut end_table,
