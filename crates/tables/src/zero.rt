@@ -1,4 +1,5 @@
 // Zeros: the test that entries are 0, and the clearing of the stated sizes. Each is written once for each type of entry.
+// Every entry is looked at, so that several can be tested at once.
 ghost use mathlib.Core.Path.{_≡_};
 ghost use mathlib.Core.Bool.{true};
 ghost use mathlib.Core.List.{[]};
@@ -15,57 +16,53 @@ use super::limits::VARIABLE_LIMIT;
 pub fn zero_literals(literals: &[i16]) -> bool
     ensures { λ r. ⌜ r ≡ allOf isZeroLiteral (now (literals .entry)) ⌝ }
 {
-    let mut place = 0;
-    while place < literals.len() {
-        let literal = literals[place];
-        if literal != 0 {
-            return false;
-        }
-        place += 1;
+    let mut i = 0;
+    let mut zero = true;
+    while i < literals.len() {
+        let literal = literals[i];
+        zero = zero & (literal == 0);
+        i += 1;
     }
-    true
+    zero
 }
 
 pub fn zero_ends(entries: &[u16]) -> bool
     ensures { λ r. ⌜ r ≡ allOf isZero (now (entries .entry)) ⌝ }
 {
     let mut i = 0;
+    let mut zero = true;
     while i < entries.len() {
         let entry = entries[i];
-        if entry != 0 {
-            return false;
-        }
+        zero = zero & (entry == 0);
         i += 1;
     }
-    true
+    zero
 }
 
 pub fn zero_sets(entries: &[u64]) -> bool
     ensures { λ r. ⌜ r ≡ allOf isZero (now (entries .entry)) ⌝ }
 {
     let mut i = 0;
+    let mut zero = true;
     while i < entries.len() {
         let entry = entries[i];
-        if entry != 0 {
-            return false;
-        }
+        zero = zero & (entry == 0);
         i += 1;
     }
-    true
+    zero
 }
 
 pub fn zero_kinds(entries: &[u8]) -> bool
     ensures { λ r. ⌜ r ≡ allOf isZero (now (entries .entry)) ⌝ }
 {
     let mut i = 0;
+    let mut zero = true;
     while i < entries.len() {
         let entry = entries[i];
-        if entry != 0 {
-            return false;
-        }
+        zero = zero & (entry == 0);
         i += 1;
     }
-    true
+    zero
 }
 
 fn clear_literals(entries: &mut [i16], size: usize)

@@ -2,6 +2,7 @@
 --     and-left, and-right, both _ _      both sides of a conjunction
 --     every-at, every-from, every-fails, every-last     one condition of a list that holds; each of them; one that fails; the last one
 --     all-pass, all-fail, all-end        one turn of a loop that tests each entry
+--     all-next, all-done                 the same where the loop looks at every entry
 --     all-member, all-getD, all-from     a test of all entries, and of each
 --     all-take, all-drop, all-same, all-replicate
 --     variables-..                       the same of kinds and sets side by side
@@ -63,6 +64,15 @@ module _ {A : Type 0} (P : A → Bool) where
   pub all-end : (l : List A) (i : ℕ) → length l ≤ i → allOf P (drop i l) ≡ true
   unfolding allOf
   all-end l i h = rw (drop-of-length-le l {i = i} h)
+
+  -- a loop that has b so far, and looks at every entry
+  pub all-next : (l : List A) (i : ℕ) (d : A) → i < length l → (b : Bool) {c : Bool} → c ≡ P (getD l i d) → (b && allOf P (drop i l)) ≡ ((b && c) && allOf P (drop (i + 1) l))
+  unfolding allOf
+  all-next l i d h true e = rw (e, add-one, drop-cons l i d h)
+  all-next l i d h false e = refl
+
+  pub all-done : (l : List A) (i : ℕ) → length l ≤ i → (b : Bool) → (b && allOf P (drop i l)) ≡ b
+  all-done l i h b = rw (all-end l i h) (and-true b)
 
   -- a test of all entries, and of each
   pub all-member : (l : List A) → allOf P l ≡ true → (x : A) → x ∈ l → P x ≡ true

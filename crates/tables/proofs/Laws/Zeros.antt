@@ -1,14 +1,16 @@
 -- Entries that are 0, tested and written one after the other.
---     zero-yes, zero-no, zero-literal-yes, zero-literal-no     the test of one entry; a literal is tested by its bits
+--     zero-told, zero-literal-told                             the test of one entry; a literal is tested by its bits
 --     cleared-next, cleared-all, cleared-tables                one turn of the clearing, its end, and all four tables
 use mathlib.Core.Path.{_≡_, refl, ap, sym, _∙_}
+use mathlib.Core.Logic.{_⊎_, inl, inr}
 use mathlib.Core.Bool.{true, false}
 use mathlib.Core.List.{List, [], _∷_, _++_, append-assoc}
 use Prim.Native.Nat.{ℕ, suc, _+_, _-_, _≤_, _<_, _^_}
 use native.Mathlib.Nat.{sub-zero}
 use native.Mathlib.Numerals.{add-one}
 use native.Mathlib.Omega.{arith}
-use borrow.Author.Tests.{eq-eqb, ne-eqb}
+use borrow.Author.Tests.{ne-eqb, eqb-true, eqb-false}
+use lib.Dec.{eqb}
 use mir.Syntax.{w16}
 use mir.Val.{toZ, ofZ}
 use lib.IntN.{ℤ, pos, negsuc}
@@ -20,26 +22,30 @@ use Rattle.dqbf.specs.Literal.{same}
 use Rattle.dqbf.specs.Set.{Set}
 use Rattle.dqbf.specs.Model.{clauses}
 use Rattle.dqbf.proofs.Laws.Signed.{kept16}
+use Rattle.dqbf.proofs.Laws.Tests.{either}
 use Rattle.tables.specs.Tables.{Tables, tablesOf}
 use Rattle.tables.specs.Spread.{flat, endsFrom, over, spread, kindRow, setRow, blank}
 use Rattle.tables.specs.WellFormed.{isZero, isZeroLiteral}
 
-pub zero-yes : (x : ℕ) → x ≡ 0 → isZero x ≡ true
+pub zero-told : (x : ℕ) → eqb x 0 ≡ isZero x
 unfolding isZero
-zero-yes x e = eq-eqb x 0 e
+zero-told x = refl
 
-pub zero-no : (x : ℕ) → (x ≡ 0 → ⊥) → isZero x ≡ false
-unfolding isZero
-zero-no x n = ne-eqb x 0 n
-
-pub zero-literal-yes : (l : ℤ) → mag l < 2 ^ 15 → ofZ w16 l ≡ 0 → isZeroLiteral l ≡ true
+zero-literal-yes : (l : ℤ) → mag l < 2 ^ 15 → ofZ w16 l ≡ 0 → isZeroLiteral l ≡ true
 unfolding isZeroLiteral same
 zero-literal-yes l h e = let q : l ≡ pos 0 = sym (kept16 h) ∙ ap (toZ w16) e in rw q
 
-pub zero-literal-no : (l : ℤ) → (ofZ w16 l ≡ 0 → ⊥) → isZeroLiteral l ≡ false
+zero-literal-no : (l : ℤ) → (ofZ w16 l ≡ 0 → ⊥) → isZeroLiteral l ≡ false
 unfolding isZeroLiteral same
 zero-literal-no (pos n) h = ne-eqb n 0 (λ q. h (ap (λ k. ofZ w16 (pos k)) q))
 zero-literal-no (negsuc n) h = refl
+
+pub zero-literal-told : (l : ℤ) → mag l < 2 ^ 15 → eqb (ofZ w16 l) 0 ≡ isZeroLiteral l
+zero-literal-told l h = go (either (eqb (ofZ w16 l) 0))
+  where
+    go : (eqb (ofZ w16 l) 0 ≡ true) ⊎ (eqb (ofZ w16 l) 0 ≡ false) → eqb (ofZ w16 l) 0 ≡ isZeroLiteral l
+    go (inl e) = e ∙ sym (zero-literal-yes l h (eqb-true (ofZ w16 l) 0 e))
+    go (inr e) = e ∙ sym (zero-literal-no l (eqb-false (ofZ w16 l) 0 e))
 
 module _ {A : Type 0} (z : A) where
   pub cleared-next : (t t₀ : List A) (i : ℕ) → i < length t₀ → t ≡ replicate i z ++ drop i t₀ → set t i z ≡ replicate (i + 1) z ++ drop (i + 1) t₀

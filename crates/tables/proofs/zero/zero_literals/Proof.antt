@@ -1,44 +1,51 @@
--- `tables::zero::zero_literals` meets its contract.
+use borrow.Author.Needs.{needs}
 use mathlib.Core.Path.{_≡_, refl, sym, _∙_}
+use mathlib.Core.Bool.{_&&_}
 use Prim.Native.Nat.{_≤_, _-_}
-use lib.IntN.{pos}
+use native.Mathlib.Omega.{arith}
 use lib.ListN.{length, drop}
 use Rattle.tables.specs.WellFormed.{allOf, isZeroLiteral}
-use Rattle.tables.proofs.Laws.Tests.{all-pass, all-fail, all-end}
-use Rattle.tables.proofs.Laws.Zeros.{zero-literal-yes, zero-literal-no}
-use borrow.Author.Needs.{needs}
+use Rattle.tables.proofs.Laws.Tests.{all-next, all-done}
+use Rattle.tables.proofs.Laws.Zeros.{zero-literal-told}
+use lib.IntN.{pos}
 use Rattle.tables.proofs.zero.zero_literals.Statement.{statement}
 use Rattle.tables.proofs.zero.zero_literals.Tie as tie
+use Rattle.tables.proofs.zero.zero_literals.Reads as reads
+use Rattle.tables.proofs.zero.zero_literals.Lts as lts
 
 abbrev Inv-loop : tie.InvT-loop
-Inv-loop literals place₀ place = (place ≤ length literals) × (allOf isZeroLiteral literals ≡ allOf isZeroLiteral (drop place literals))
+Inv-loop literals i₀ zero₀ i zero = (i ≤ length literals) × (allOf isZeroLiteral literals ≡ (zero && allOf isZeroLiteral (drop i literals)))
 
 abbrev μ-loop : tie.MeasureT-loop
-μ-loop literals place₀ place = length literals - place
+μ-loop literals i₀ zero₀ i zero = length literals - i
 
+-- src/zero.rt:21:5
 loop-holds : tie.Need-loop-holds Inv-loop μ-loop
 loop-holds c = (search needs, refl)
 
+-- src/zero.rt:22:23
 mul-literal : tie.Need-mul-literal Inv-loop μ-loop
 mul-literal c = search needs
 
+-- src/zero.rt:22:23
 shared-slice-copy-out-literal : tie.Need-shared-slice-copy-out-literal Inv-loop μ-loop
 shared-slice-copy-out-literal c = search needs
 
-returns : tie.Need-returns Inv-loop μ-loop
-returns c = sym (c .before .before .before .loop .inv .1 ∙ all-fail isZeroLiteral _ _ (pos 0) (c .before .before .loop-test .taken) (zero-literal-no _ (c .if1 .taken)))
+-- src/zero.rt:24:9
+add-i : tie.Need-add-i Inv-loop μ-loop
+add-i c = search needs
 
-add-place : tie.Need-add-place Inv-loop μ-loop
-add-place c = search needs
-
+-- src/zero.rt:21:5
 loop-less : tie.Need-loop-less Inv-loop μ-loop
 loop-less c = search needs
 
+-- src/zero.rt:21:5
 loop-again : tie.Need-loop-again Inv-loop μ-loop
-loop-again c = (search needs, c .before .before .before .loop .inv .1 ∙ all-pass isZeroLiteral _ _ (pos 0) (c .before .before .loop-test .taken) (zero-literal-yes _ (c .before .literal .given) (c .if1 .left)))
+loop-again c = (search needs, c .before .before .loop .inv .1 ∙ all-next isZeroLiteral (c .before .before .before .args .literals .now) (c .before .before .loop .i) (pos 0) (omega arith) (c .before .before .loop .zero) (zero-literal-told _ (c .literal .given)))
 
-returns-2 : tie.Need-returns-2 Inv-loop μ-loop
-returns-2 c = sym (c .before .loop .inv .1 ∙ all-end isZeroLiteral _ _ (c .loop-test .left))
+-- src/zero.rt:16:1
+returns : tie.Need-returns Inv-loop μ-loop
+returns c = sym (c .before .loop .inv .1 ∙ all-done isZeroLiteral (c .before .before .args .literals .now) (c .before .loop .i) (omega arith) (c .before .loop .zero))
 
 pub zero-literals-spec : {M : Type 1} → statement M
 zero-literals-spec =
@@ -49,8 +56,7 @@ zero-literals-spec =
     loop-holds
     mul-literal
     shared-slice-copy-out-literal
-    returns
-    add-place
+    add-i
     loop-less
     loop-again
-    returns-2)
+    returns)
