@@ -2,6 +2,5 @@ pub mod Clauses
 pub mod Places
 pub mod Merging
 pub mod Literals
-pub mod Narrowing
 pub mod Sets
 pub mod Writing

@@ -15,7 +15,7 @@ use native.Mathlib.Numerals.{add-one}
 use lib.ListN.{length, set, take, drop, length-append}
 use borrow.Rule.Slice.PartMut.{putMid}
 use Rattle.tables.proofs.Laws.Rows.{stored-stored, stored-tail}
-use Rattle.dqbf.specs.Limits.{tables, widthLimit, clauseLimit, literalLimit, variableLimit}
+use Rattle.dqbf.specs.Limits.{tables, widthLimit, clauseLimit, variableLimit}
 use Rattle.dqbf.specs.Refusal.{Refusal, refusal}
 use Rattle.dqbf.specs.Literal.{Clause, clashes, total}
 use Rattle.dqbf.specs.Set.{Set}
@@ -122,9 +122,6 @@ module _ (t : Tables) (s : State) (h : Holding t s) where
       -- the tail has room for it
       pub one-room : s .literals + length C ≤ length (t .literals)
       one-room = omega (arith, room-one t s (h .lent) (h .formed) C fits .literals-fit, long-is t (h .lent) .literals)
-
-      pub one-narrow : length C ≤ literalLimit
-      one-narrow = omega (arith, room-one t s (h .lent) (h .formed) C fits .literals-fit)
 
       -- what `tables::adding::add_clause` asks
       pub one-asked : {n : ℕ} → n ≡ length C → RoomFor s 1 n 0 × (clauseLimit ≤ length (t .ends)) × (s .steps .0 < clauseLimit)

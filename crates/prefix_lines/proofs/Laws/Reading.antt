@@ -2,7 +2,7 @@
 --     countsOf, pending-state, model-state     the state of a model that is read
 --     bound-is, universals-is, ..              the counts
 --     kinds-front, sets-front, ..              the entries in use
---     long-now, lent-now, framed               the tables are long enough, and their entries past the stated sizes as they were
+--     long-now, framed                         the tables are long enough, and their entries past the stated sizes as they were
 -- Assumes nothing.
 use mathlib.Core.Path.{_≡_, refl, ap, sym, _∙_}
 use mathlib.Core.Bool.{Bool, true, false}
@@ -24,7 +24,7 @@ use Rattle.tables.specs.WellFormed.{long}
 use Rattle.tables.specs.declared.State.{State}
 use Rattle.tables.proofs.Laws.Cuts.{flat-length, ends-length}
 use Rattle.tables.proofs.Laws.Rows.{over-length, over-take, over-over}
-use Rattle.tables.proofs.Laws.Formed.{Long, long-is, long-to}
+use Rattle.tables.proofs.Laws.Formed.{Long, long-is}
 use Rattle.prefix_lines.specs.Pending.{pending}
 use Rattle.prefix_lines.specs.Lines.{phaseNumber, progressOf, ReadSoFar, Framed}
 use Rattle.prefix_lines.specs.declared.progress.Progress.{Progress}
@@ -163,9 +163,6 @@ module _ {t : Tables} {r : Reader} {p : Progress} {now : Tables} (h : ReadSoFar 
         sets = omega (arith, over-length 0 variableLimit (setRow (pending φ)) (t .sets) sets-fit (l .sets));
         kinds = omega (arith, over-length 0 variableLimit (kindRow (pending φ)) (t .kinds) kinds-fit (l .kinds));
       })
-
-  pub lent-now : long now ≡ true
-  lent-now = long-to now long-now
 
   pub framed : Framed t now
   unfolding spread

@@ -107,9 +107,6 @@ module _ {A : Type 0} (P : A → Bool) where
   all-replicate z e zero = refl
   all-replicate z e (suc n) = rw e (all-replicate z e n)
 
-pub all-both : {A : Type 0} (P Q R : A → Bool) → ((x : A) → P x ≡ true → Q x ≡ true → R x ≡ true) → (l : List A) → allOf P l ≡ true → allOf Q l ≡ true → allOf R l ≡ true
-all-both P Q R f l e g = all-from R l (λ x q. f x (all-member P l e x q) (all-member Q l g x q))
-
 -- ---- allVariables
 
 module _ (P : ℕ → Set → Bool) where
