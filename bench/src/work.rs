@@ -40,8 +40,8 @@ fn short_clauses() -> String {
     text
 }
 
-/// 256 clauses of 32 literals, in falling order.
-fn wide_clauses() -> String {
+/// 256 clauses of 32 literals, each line in the order that `place` gives.
+fn wide_clauses(place: fn(usize) -> usize) -> String {
     let mut text = format!(
         "p cnf 99 256\na {} 0\ne {} 0\n",
         joined(10..=40),
@@ -49,7 +49,7 @@ fn wide_clauses() -> String {
     );
     for clause in 0..256 {
         let first = 10 + clause % 58;
-        text += &format!("{} 0\n", joined((first..first + 32).rev()));
+        text += &format!("{} 0\n", joined((0..32).map(|i| first + place(i))));
     }
     text
 }
@@ -69,7 +69,14 @@ fn large_sets() -> String {
 pub fn loads() -> Vec<Work> {
     let texts = [
         ("load, 2,048 clauses of 4 literals", short_clauses()),
-        ("load, 256 clauses of 32 literals", wide_clauses()),
+        (
+            "load, 256 clauses of 32 literals, falling",
+            wide_clauses(|i| 31 - i),
+        ),
+        (
+            "load, 256 clauses of 32 literals, mixed",
+            wide_clauses(|i| i * 13 % 32),
+        ),
         ("load, sets of 64 universals", large_sets()),
     ];
     let works = texts.map(|(name, text)| Work {
