@@ -1,9 +1,12 @@
--- The marked cases of document 01 ("Formulas on the desk"): every row of the table (specs/Cases.antt) holds. Beside it the example of 002, section 5.
+-- The marked cases of document 01 ("Formulas on the desk"): every row of the table (specs/Cases.antt) holds. Beside them lines with two faults, and the example of 002, section 5.
 use Rattle.dqbf.specs.Literal.{_∈_}
-use Rattle.dqbf.specs.Cases.{Row, Holds, marked, sectionFive}
+use Rattle.dqbf.specs.Cases.{Row, Holds, marked, twoFaults, sectionFive}
 
 abbrev pub MarkedCases : Type 0
 MarkedCases = (r : Row) → r ∈ marked → Holds r
+
+abbrev pub TwoFaults : Type 0
+TwoFaults = (r : Row) → r ∈ twoFaults → Holds r
 
 abbrev pub SectionFive : Type 0
 SectionFive = Holds sectionFive
