@@ -40,8 +40,21 @@ fn short_clauses() -> String {
     text
 }
 
-/// 256 clauses of 32 literals, each line in the order that `place` gives.
-fn wide_clauses(place: fn(usize) -> usize) -> String {
+/// The places 0 to 31 in an order that is another one for each clause.
+fn shuffled(clause: usize) -> Vec<usize> {
+    let mut places: Vec<usize> = (0..32).collect();
+    let mut random = clause as u64;
+    for last in (1..32).rev() {
+        random = random
+            .wrapping_mul(6_364_136_223_846_793_005)
+            .wrapping_add(1_442_695_040_888_963_407);
+        places.swap(last, (random >> 33) as usize % (last + 1));
+    }
+    places
+}
+
+/// 256 clauses of 32 literals, each line in the order that `places` gives.
+fn wide_clauses(places: impl Fn(usize) -> Vec<usize>) -> String {
     let mut text = format!(
         "p cnf 99 256\na {} 0\ne {} 0\n",
         joined(10..=40),
@@ -49,7 +62,7 @@ fn wide_clauses(place: fn(usize) -> usize) -> String {
     );
     for clause in 0..256 {
         let first = 10 + clause % 58;
-        text += &format!("{} 0\n", joined((0..32).map(|i| first + place(i))));
+        text += &format!("{} 0\n", joined(places(clause).iter().map(|place| first + place)));
     }
     text
 }
@@ -71,11 +84,11 @@ pub fn loads() -> Vec<Work> {
         ("load, 2,048 clauses of 4 literals", short_clauses()),
         (
             "load, 256 clauses of 32 literals, falling",
-            wide_clauses(|i| 31 - i),
+            wide_clauses(|_| (0..32).rev().collect()),
         ),
         (
-            "load, 256 clauses of 32 literals, mixed",
-            wide_clauses(|i| i * 13 % 32),
+            "load, 256 clauses of 32 literals, shuffled",
+            wide_clauses(shuffled),
         ),
         ("load, sets of 64 universals", large_sets()),
     ];

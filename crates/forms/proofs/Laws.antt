@@ -6,7 +6,3 @@ pub mod Bytewise
 pub mod Gathering
 pub mod Forms
 pub mod Shapes
-pub mod Insertion
-pub mod Sorting
-pub mod Rising
-pub mod Ranks

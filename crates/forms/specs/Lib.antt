@@ -1,4 +1,2 @@
 pub mod Shapes
-pub mod Order
-pub mod Ranks
 pub mod Working

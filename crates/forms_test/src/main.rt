@@ -26,7 +26,7 @@ fn write_rank(rank: u32) {
         write_number(rank);
         return;
     }
-    let literal = forms::literals::literal_of(rank);
+    let literal = ranks::literals::literal_of(rank);
     io::write_all(1, b" ");
     if literal < 0 {
         io::write_all(1, b"-");
@@ -50,7 +50,7 @@ fn write_universals(numbers: &[u32], count: usize)
     requires { ⌜ count ≤ length (now numbers) ⌝ }
 {
     let mut sorted = [0u32; 65];
-    let used = forms::order::insert_all(numbers, count, &mut sorted, 0, 64);
+    let used = ranks::order::insert_all(numbers, count, &mut sorted, 0, 64);
     if 64 < used {
         io::write_all(1, b" over 64");
         return;
@@ -64,14 +64,14 @@ fn write_clause(numbers: &[u32], count: usize)
     requires { ⌜ count ≤ length (now numbers) ⌝ }
 {
     let mut sorted = [0u32; 33];
-    let used = forms::order::insert_all(numbers, count, &mut sorted, 0, 32);
+    let used = ranks::order::insert_all(numbers, count, &mut sorted, 0, 32);
     if 32 < used {
         io::write_all(1, b" over 32");
         return;
     }
     io::write_all(1, b" :");
     write_ranks(&sorted, used);
-    if forms::literals::has_pair(&sorted, used) {
+    if ranks::literals::has_pair(&sorted, used) {
         io::write_all(1, b" complementary");
     }
 }

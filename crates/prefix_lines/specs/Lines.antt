@@ -18,7 +18,7 @@ use Rattle.dqbf.specs.Formula.{Declaration, onA, onE, universals, declared}
 use Rattle.dqbf.specs.Model.{wordOf}
 use Rattle.dqbf.specs.Reading.{Form, Phase, opening, prefixLines, clauseLines, Reader, start, fresh, lineTests, declaring, taken}
 use Rattle.dqbf.proofs.Reading.Lines.{Sane}
-use Rattle.forms.specs.Order.{allInserted}
+use Rattle.ranks.specs.Order.{allInserted}
 use Rattle.tables.specs.Tables.{Tables}
 use Rattle.tables.specs.Spread.{spread, stateOf, blank}
 use Rattle.tables.specs.WellFormed.{long}

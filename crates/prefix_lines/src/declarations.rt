@@ -15,7 +15,7 @@ use super::progress;
 use super::progress::LineAnswer;
 use super::progress::Progress;
 use super::refusal;
-use forms::order;
+use ranks::order;
 use tables::VariableNumber;
 use tables::entries;
 

@@ -28,10 +28,10 @@ use Rattle.dqbf.proofs.Laws.Tests.{either, and-left, and-right, both, never, pa
 use Rattle.dqbf.proofs.Laws.Counting.{in-elem}
 use Rattle.dqbf.proofs.Laws.Clauses.{sorted-holds, sorted-in}
 use Rattle.dqbf.proofs.Reading.Lines.{newOn, all-in, sane-form}
-use Rattle.forms.specs.Order.{allInserted, Arranged}
-use Rattle.forms.specs.Ranks.{literalOfRank, sideBySide}
-use Rattle.forms.proofs.Laws.Ranks.{rank-variable}
-use Rattle.forms.proofs.Laws.Sorting.{clause-count, clause-front, clause-literals, clause-pair}
+use Rattle.ranks.specs.Order.{allInserted, Arranged}
+use Rattle.ranks.specs.Ranks.{literalOfRank, sideBySide}
+use Rattle.ranks.proofs.Laws.Ranks.{rank-variable}
+use Rattle.ranks.proofs.Laws.Sorting.{clause-count, clause-front, clause-literals, clause-pair}
 use Rattle.tables.specs.Tables.{Tables, tablesOf, entry}
 use Rattle.tables.specs.Spread.{spread, stateOf}
 use Rattle.tables.specs.WellFormed.{allOf}

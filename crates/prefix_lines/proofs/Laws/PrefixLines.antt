@@ -23,9 +23,9 @@ use Rattle.dqbf.specs.Model.{Model, place, wordOf}
 use Rattle.dqbf.specs.Reading.{Form, aLine, eLine, dLine, Phase, prefixLines, Reader, takesPrefix, elem, allIn, different, fresh, undeclarable, lineTests, declaring, taken}
 use Rattle.dqbf.proofs.Laws.Tests.{and-left, and-right, eqb-is, never, pass, no-not, no-or, or-left, or-right}
 use Rattle.dqbf.proofs.Reading.Lines.{newOn, universals-append, universals-a}
-use Rattle.forms.specs.Order.{allInserted, Arranged}
-use Rattle.forms.proofs.Laws.Insertion.{all-grows}
-use Rattle.forms.proofs.Laws.Sorting.{universals-count, universals-front}
+use Rattle.ranks.specs.Order.{allInserted, Arranged}
+use Rattle.ranks.proofs.Laws.Insertion.{all-grows}
+use Rattle.ranks.proofs.Laws.Sorting.{universals-count, universals-front}
 use Rattle.tables.specs.Tables.{Tables, tablesOf, entry}
 use Rattle.tables.specs.WellFormed.{allOf}
 use Rattle.prefix_lines.specs.Pending.{subject, kindWhile, setWhile, given, pendingKind, pendingSet, pending}

@@ -13,7 +13,7 @@ use Rattle.dqbf.specs.Formula.{onE, onD, universals, universalsOf}
 use Rattle.dqbf.specs.Reading.{Form, comment, header, aLine, eLine, dLine, clauseLine, noForm, formOf, Reader, declaring, taken}
 use Rattle.dqbf.proofs.Laws.Lists.{nth}
 use Rattle.dqbf.proofs.Reading.Lines.{Positive, newOn, form-positive, universals-append, universals-e}
-use Rattle.forms.specs.Order.{allInserted}
+use Rattle.ranks.specs.Order.{allInserted}
 use Rattle.forms.specs.Shapes.{Formed}
 use Rattle.forms.specs.declared.form.Shape.{Shape}
 use Rattle.forms.specs.declared.form.Shape.the-variants.{Comment, Header, Universals, Existentials, Dependent, Malformed}

@@ -19,7 +19,7 @@ use Rattle.dqbf.specs.Text.{lineFeed, onto, pieces, isEmpty}
 use Rattle.dqbf.specs.Model.{numbers, wordOf}
 use Rattle.dqbf.specs.Reading.{Form, formOf, Phase, opening, prefixLines, clauseLines, Reader, start, lineTests, taken, Loaded, accepted, refused, atEnd, unless, readFrom}
 use Rattle.dqbf.proofs.Reading.Lines.{start-sane}
-use Rattle.forms.specs.Order.{allInserted}
+use Rattle.ranks.specs.Order.{allInserted}
 use Rattle.forms.specs.Shapes.{lineLength}
 use Rattle.forms.proofs.Laws.Pieces.{line-at-inside, line-at-last, line-at-more}
 use Rattle.tables.specs.Tables.{Tables}

@@ -4,7 +4,7 @@ use Rattle.clause_lines.proofs.clause.add_formula_clause.Statement.{sta
 use Rattle.clause_lines.proofs.clause.add_formula_clause.Tie as tie
 use Rattle.clause_lines.proofs.clause.add_formula_clause.Reads as reads
 use Rattle.clause_lines.proofs.clause.add_formula_clause.Lts as lts
-use Rattle.forms.proofs.literals.write_literals.Reads as write-literals-reads
+use Rattle.ranks.proofs.literals.write_literals.Reads as write-literals-reads
 use Rattle.tables.proofs.adding.count_formula_clause.Reads as count-formula-clause-reads
 use Rattle.tables.proofs.adding.end_clause.Reads as end-clause-reads
 

@@ -10,8 +10,8 @@ use Rattle.clause_lines.proofs.clause.clause_line.Reads as reads
 use Rattle.clause_lines.proofs.clause.clause_line.Lts as lts
 use Rattle.clause_lines.proofs.clause.add_formula_clause.Reads as add-formula-clause-reads
 use Rattle.clause_lines.proofs.clause.all_declared.Reads as all-declared-reads
-use Rattle.forms.proofs.literals.has_pair.Reads as has-pair-reads
-use Rattle.forms.proofs.order.insert_all.Reads as insert-all-reads
+use Rattle.ranks.proofs.literals.has_pair.Reads as has-pair-reads
+use Rattle.ranks.proofs.order.insert_all.Reads as insert-all-reads
 use Rattle.prefix_lines.proofs.progress.refused.Reads as refused-reads
 
 -- src/clause.rt:83:9

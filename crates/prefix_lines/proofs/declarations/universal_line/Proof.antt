@@ -6,7 +6,7 @@ use Rattle.prefix_lines.proofs.declarations.universal_line.Statement.{s
 use Rattle.prefix_lines.proofs.declarations.universal_line.Tie as tie
 use Rattle.prefix_lines.proofs.declarations.universal_line.Reads as reads
 use Rattle.prefix_lines.proofs.declarations.universal_line.Lts as lts
-use Rattle.forms.proofs.order.insert_all.Reads as insert-all-reads
+use Rattle.ranks.proofs.order.insert_all.Reads as insert-all-reads
 use Rattle.prefix_lines.proofs.declarations.declare_all.Reads as declare-all-reads
 use Rattle.prefix_lines.proofs.progress.refused.Reads as refused-reads
 
