@@ -14,6 +14,8 @@ ghost use Rattle.tables.specs.Adding.{stored, RoomFor};
 ghost use Rattle.ranks.specs.Ranks.{literalOfRank};
 ghost use Rattle.prefix_lines.specs.Rows.{isDeclared};
 ghost use Rattle.prefix_lines.specs.Lines.{ReadSoFar, LineRead, Within, clauseAdded};
+use dqbf::limits::LITERAL_LIMIT;
+use dqbf::limits::WIDTH_LIMIT;
 use prefix_lines::progress;
 use prefix_lines::progress::LineAnswer;
 use prefix_lines::progress::Progress;
@@ -23,8 +25,6 @@ use ranks::order;
 use tables::VariableNumber;
 use tables::adding;
 use tables::entries;
-use tables::limits::LITERAL_LIMIT;
-use tables::limits::WIDTH_LIMIT;
 
 // Whether the variable of each rank is declared.
 fn all_declared(ranks: &[u32], kinds: &[u8]) -> bool

@@ -1,47 +1,34 @@
-// Clauses by value: copies at the front of a local array, each with its length. What a step adds is made there, before the table is written.
-// Each literal is written, and the next is written over it where it does not belong to the copy.
+// Clauses by value: what a step adds is made as one of these before the table is written.
+use crate::copying;
+use dqbf::limits::WIDTH_LIMIT;
 ghost use Prim.Native.Nat.{_≤_};
 ghost use lib.ListN.{length};
+ghost use Rattle.dqbf.specs.Limits.{widthLimit};
 ghost use Rattle.dqbf.specs.Literal as Literal;
-ghost use Rattle.clauses.specs.Writing.{Held};
+ghost use Rattle.clauses.specs.Writing.{ByValue};
 
-// The clause without a literal; the number of its literals.
-pub fn hold_without(held: &mut [i16], clause: &[i16], literal: i16) -> usize
-    requires { ⌜ length (now clause) ≤ length (now held) ⌝ }
-    ensures { λ r. ⌜ Held (Literal.without literal (now (clause .entry))) (now (held .exit)) r ⌝ }
-{
-    let n = clause.len();
-    let mut i = 0;
-    let mut count = 0;
-    while i < n {
-        let l = clause[i];
-        held[count] = l;
-        i += 1;
-        if l != literal {
-            count += 1;
-        }
-    }
-    count
+// A clause of at most 32 literals: the first `count` of the array.
+pub struct Held {
+    pub literals: [i16; WIDTH_LIMIT],
+    pub count: usize,
 }
 
-// The literals that a mask picks, bit i the one at place i; their number.
-pub fn hold_part(held: &mut [i16], clause: &[i16], mask: u32) -> usize
-    requires { ⌜ length (now clause) ≤ length (now held) ⌝ }
-    ensures { λ r. ⌜ Held (Literal.pick mask (now (clause .entry))) (now (held .exit)) r ⌝ }
+// The clause without a literal.
+pub fn hold_without(clause: &[i16], literal: i16) -> Held
+    requires { ⌜ length (now clause) ≤ widthLimit ⌝ }
+    ensures { λ r. ⌜ ByValue (Literal.without literal (now (clause .entry))) widthLimit (r .literals) (r .count) ⌝ }
 {
-    let n = clause.len();
-    let mut i = 0;
-    let mut count = 0;
-    let mut rest = mask;
-    while i < n {
-        let l = clause[i];
-        held[count] = l;
-        i += 1;
-        let picked = rest % 2;
-        rest = rest / 2;
-        if picked == 1 {
-            count += 1;
-        }
-    }
-    count
+    let mut literals = [0i16; WIDTH_LIMIT];
+    let count = copying::copy_without(&mut literals, clause, literal);
+    Held { literals, count }
+}
+
+// The literals that a mask picks, bit i the one at place i.
+pub fn hold_part(clause: &[i16], mask: u32) -> Held
+    requires { ⌜ length (now clause) ≤ widthLimit ⌝ }
+    ensures { λ r. ⌜ ByValue (Literal.pick mask (now (clause .entry))) widthLimit (r .literals) (r .count) ⌝ }
+{
+    let mut literals = [0i16; WIDTH_LIMIT];
+    let count = copying::copy_part(&mut literals, clause, mask);
+    Held { literals, count }
 }

@@ -1,12 +1,14 @@
 // The resolvent of two clauses before its tests: their union without the pivot's literals, in order. It may have more than 32 literals and complementary ones.
-use crate::held;
+use crate::copying;
+use dqbf::limits::WIDTH_LIMIT;
 use dqbf::literal;
 ghost use mathlib.Core.Path.{_≡_};
-ghost use Prim.Native.Nat.{_+_, _≤_};
+ghost use Prim.Native.Nat.{_+_, _*_, _≤_};
 ghost use lib.ListN.{length};
+ghost use Rattle.dqbf.specs.Limits.{widthLimit};
 ghost use Rattle.dqbf.specs.Literal as Literal;
 ghost use Rattle.clauses.specs.Merging.{MergedTo};
-ghost use Rattle.clauses.specs.Writing.{Held};
+ghost use Rattle.clauses.specs.Writing.{ByValue, Copied};
 
 // The place of a literal in the order of clauses: by variable, a variable before its negation.
 fn rank(literal: i16) -> u32
@@ -27,9 +29,9 @@ pub struct Merged {
 }
 
 // The union of the first clause without the pivot and the second without its complement, up to the end of one of the two clauses.
-fn merge(held: &mut [i16], first: &[i16], pivot: i16, second: &[i16], complement: i16) -> Merged
-    requires { ⌜ length (now first) + length (now second) ≤ length (now held) ⌝ }
-    ensures { λ r. ⌜ MergedTo (now (first .entry)) pivot (now (second .entry)) complement (now (held .exit)) r ⌝ }
+fn merge(copy: &mut [i16], first: &[i16], pivot: i16, second: &[i16], complement: i16) -> Merged
+    requires { ⌜ length (now first) + length (now second) ≤ length (now copy) ⌝ }
+    ensures { λ r. ⌜ MergedTo (now (first .entry)) pivot (now (second .entry)) complement (now (copy .exit)) r ⌝ }
 {
     let n = first.len();
     let m = second.len();
@@ -47,16 +49,16 @@ fn merge(held: &mut [i16], first: &[i16], pivot: i16, second: &[i16], complement
         } else if k == complement {
             j += 1;
         } else if l == k {
-            held[count] = l;
+            copy[count] = l;
             count += 1;
             i += 1;
             j += 1;
         } else if rank(l) < rank(k) {
-            held[count] = l;
+            copy[count] = l;
             count += 1;
             i += 1;
         } else {
-            held[count] = k;
+            copy[count] = k;
             count += 1;
             j += 1;
         }
@@ -64,21 +66,31 @@ fn merge(held: &mut [i16], first: &[i16], pivot: i16, second: &[i16], complement
     Merged { count, i, j }
 }
 
-// The union of the first clause without the pivot and the second without its complement, by value; the number of its literals.
-pub fn hold_resolvent(
-    held: &mut [i16],
-    first: &[i16],
-    pivot: i16,
-    second: &[i16],
-    complement: i16,
-) -> usize
-    requires { ⌜ length (now first) + length (now second) ≤ length (now held) ⌝ }
-    ensures { λ r. ⌜ Held (Literal.join (Literal.without pivot (now (first .entry))) (Literal.without complement (now (second .entry)))) (now (held .exit)) r ⌝ }
+// The whole union, to the front of the literals that are lent for it; the number of its literals.
+fn copy_union(copy: &mut [i16], first: &[i16], pivot: i16, second: &[i16], complement: i16) -> usize
+    requires { ⌜ length (now first) + length (now second) ≤ length (now copy) ⌝ }
+    ensures { λ r. ⌜ Copied (Literal.join (Literal.without pivot (now (first .entry))) (Literal.without complement (now (second .entry)))) (now (copy .exit)) r ⌝ }
 {
-    let merged = merge(held, first, pivot, second, complement);
+    let merged = merge(copy, first, pivot, second, complement);
     let i = merged.i;
     let j = merged.j;
     let place = merged.count;
-    let count = place + held::hold_without(&mut held[place..], &first[i..], pivot);
-    count + held::hold_without(&mut held[count..], &second[j..], complement)
+    let count = place + copying::copy_without(&mut copy[place..], &first[i..], pivot);
+    count + copying::copy_without(&mut copy[count..], &second[j..], complement)
+}
+
+// The union of two clauses of at most 32 literals: the first `count` of the array. Without the pivot and its complement it has at most 62.
+pub struct Union {
+    pub literals: [i16; 2 * WIDTH_LIMIT],
+    pub count: usize,
+}
+
+// The union of the first clause without the pivot and the second without its complement, by value.
+pub fn hold_resolvent(first: &[i16], pivot: i16, second: &[i16], complement: i16) -> Union
+    requires { ⌜ (length (now first) ≤ widthLimit) × (length (now second) ≤ widthLimit) ⌝ }
+    ensures { λ r. ⌜ ByValue (Literal.join (Literal.without pivot (now (first .entry))) (Literal.without complement (now (second .entry)))) (2 * widthLimit) (r .literals) (r .count) ⌝ }
+{
+    let mut literals = [0i16; 2 * WIDTH_LIMIT];
+    let count = copy_union(&mut literals, first, pivot, second, complement);
+    Union { literals, count }
 }

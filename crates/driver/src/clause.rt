@@ -5,10 +5,10 @@ ghost use Rattle.driver.specs.Calls.{clauseBytes};
 use super::buffers;
 use super::result;
 use codec::state as state_codec;
+use dqbf::limits::CLAUSE_LIMIT;
+use dqbf::limits::LITERAL_LIMIT;
+use dqbf::limits::VARIABLE_LIMIT;
 use tables::ClauseNumber;
-use tables::limits::CLAUSE_LIMIT;
-use tables::limits::LITERAL_LIMIT;
-use tables::limits::VARIABLE_LIMIT;
 
 // The length of a clause.
 #[no_mangle]

@@ -7,9 +7,9 @@ ghost use Rattle.driver.specs.Calls.{After, loadBytes, loadWhole};
 use super::buffers;
 use super::result;
 use codec::state as state_codec;
-use tables::limits::CLAUSE_LIMIT;
-use tables::limits::LITERAL_LIMIT;
-use tables::limits::VARIABLE_LIMIT;
+use dqbf::limits::CLAUSE_LIMIT;
+use dqbf::limits::LITERAL_LIMIT;
+use dqbf::limits::VARIABLE_LIMIT;
 
 // A load into buffers that are long enough. It reads none of their entries, so that nothing is decoded.
 fn load_whole(

@@ -7,10 +7,10 @@ ghost use Rattle.driver.specs.Calls.{After, runBytes, runWhole};
 use super::buffers;
 use super::result;
 use codec::state as state_codec;
+use dqbf::limits::CLAUSE_LIMIT;
+use dqbf::limits::LITERAL_LIMIT;
+use dqbf::limits::VARIABLE_LIMIT;
 use steps::run;
-use tables::limits::CLAUSE_LIMIT;
-use tables::limits::LITERAL_LIMIT;
-use tables::limits::VARIABLE_LIMIT;
 
 // A run over buffers that are long enough.
 fn run_whole(

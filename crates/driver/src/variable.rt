@@ -5,10 +5,10 @@ ghost use Rattle.driver.specs.Calls.{variableBytes};
 use super::buffers;
 use super::result;
 use codec::state as state_codec;
+use dqbf::limits::CLAUSE_LIMIT;
+use dqbf::limits::LITERAL_LIMIT;
+use dqbf::limits::VARIABLE_LIMIT;
 use tables::VariableNumber;
-use tables::limits::CLAUSE_LIMIT;
-use tables::limits::LITERAL_LIMIT;
-use tables::limits::VARIABLE_LIMIT;
 
 // Kind and number of universals of a variable.
 #[no_mangle]

@@ -13,7 +13,6 @@ use tables::ClauseNumber;
 use tables::State;
 use tables::VariableNumber;
 use tables::entries;
-use tables::limits::WIDTH_LIMIT;
 ghost use Rattle.dqbf.specs.Limits as Limits;
 ghost use Rattle.dqbf.specs.Record as Record;
 ghost use Rattle.dqbf.specs.Run.{examine};
@@ -53,9 +52,10 @@ pub fn resolve(
     if !tests::holds(y, negative) {
         return adding::refused(state, refusal::NOT_IN_CLAUSE);
     }
-    let mut whole = [0i16; 2 * WIDTH_LIMIT];
-    let width = resolvent::hold_resolvent(&mut whole, x, positive, y, negative);
-    adding::add_resolvent(&whole[..width], literals, ends, sets, kinds, state)
+    let union = resolvent::hold_resolvent(x, positive, y, negative);
+    let n = union.count;
+    let whole = union.literals;
+    adding::add_resolvent(&whole[..n], literals, ends, sets, kinds, state)
 }
 
 // Universal reduction: 21, 22, 26, 27, 25.
@@ -87,8 +87,9 @@ pub fn reduce(
         return adding::refused(state, refusal::NOT_UNIVERSAL);
     }
     let set = entries::set_of(sets, variable);
-    let mut rest = [0i16; WIDTH_LIMIT];
-    let n = held::hold_without(&mut rest, x, reduced);
+    let held = held::hold_without(x, reduced);
+    let n = held.count;
+    let rest = held.literals;
     let variables = state.variables;
     let used = variables.0 as usize;
     // a universal's set is one place: another literal's set has it if the union of them has
@@ -123,10 +124,12 @@ pub fn fork(
     if !tests::covers(x, left, right) {
         return adding::refused(state, refusal::MASKS);
     }
-    let mut first = [0i16; WIDTH_LIMIT];
-    let n = held::hold_part(&mut first, x, left);
-    let mut second = [0i16; WIDTH_LIMIT];
-    let m = held::hold_part(&mut second, x, right);
+    let picked = held::hold_part(x, left);
+    let n = picked.count;
+    let first = picked.literals;
+    let other = held::hold_part(x, right);
+    let m = other.count;
+    let second = other.literals;
     let variables = state.variables;
     let used = variables.0 as usize;
     let s = dependencies::clause_set(&first[..n], &sets[..used]);

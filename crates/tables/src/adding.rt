@@ -10,9 +10,9 @@ use super::State;
 use super::StepNumber;
 use super::VariableNumber;
 use super::kind;
-use super::limits::CLAUSE_LIMIT;
-use super::limits::LITERAL_LIMIT;
-use super::limits::VARIABLE_LIMIT;
+use dqbf::limits::CLAUSE_LIMIT;
+use dqbf::limits::LITERAL_LIMIT;
+use dqbf::limits::VARIABLE_LIMIT;
 
 // The lowest empty clause, after a clause with a number and a width was added.
 pub fn lowest_after(lowest: u32, number: u32, width: usize) -> u32

@@ -15,13 +15,13 @@ use super::VariableNumber;
 use super::adding;
 use super::entries;
 use super::kind;
-use super::limits::CLAUSE_LIMIT;
-use super::limits::LITERAL_LIMIT;
-use super::limits::UNIVERSAL_LIMIT;
-use super::limits::VARIABLE_LIMIT;
-use super::limits::WIDTH_LIMIT;
 use super::refusal;
 use super::zero;
+use dqbf::limits::CLAUSE_LIMIT;
+use dqbf::limits::LITERAL_LIMIT;
+use dqbf::limits::UNIVERSAL_LIMIT;
+use dqbf::limits::VARIABLE_LIMIT;
+use dqbf::limits::WIDTH_LIMIT;
 use dqbf::literal;
 
 // No table is lent too short.

@@ -28,6 +28,5 @@ pub mod adding;
 pub mod entries;
 pub mod formed;
 pub mod kind;
-pub mod limits;
 pub mod refusal;
 pub mod zero;

@@ -9,9 +9,9 @@ ghost use lib.ListN.{length};
 ghost use Rattle.tables.specs.Tables.{tablesOf};
 ghost use Rattle.tables.specs.Spread.{over, spread, blank};
 ghost use Rattle.tables.specs.WellFormed.{allOf, isZero, isZeroLiteral, long};
-use super::limits::CLAUSE_LIMIT;
-use super::limits::LITERAL_LIMIT;
-use super::limits::VARIABLE_LIMIT;
+use dqbf::limits::CLAUSE_LIMIT;
+use dqbf::limits::LITERAL_LIMIT;
+use dqbf::limits::VARIABLE_LIMIT;
 
 pub fn zero_literals(literals: &[i16]) -> bool
     ensures { λ r. ⌜ r ≡ allOf isZeroLiteral (now (literals .entry)) ⌝ }

@@ -1,5 +1,5 @@
 -- The resolvent's union, a literal at a time (specs/Merging.antt): what the join of two clauses has in front, and the rest of both behind what is merged.
--- Offers `merge-both`, `merge-first`, `merge-second`, the next literal by the two in front; for what is merged `first-room`, `second-room`, `second-asked`, `merged-room`, `merged-held`.
+-- Offers `merge-both`, `merge-first`, `merge-second`, the next literal by the two in front; for what is merged `first-room`, `second-room`, `second-asked`, `merged-room`, `merged-copied`.
 use mathlib.Core.Path.{_≡_, refl, ap, sym, _∙_}
 use mathlib.Core.Logic.{_⊎_, inl, inr, _≢_}
 use mathlib.Core.List.{List, [], _∷_, _++_, append-nil, append-assoc}
@@ -14,11 +14,11 @@ use Rattle.dqbf.proofs.Laws.Clauses.{without-short}
 use Rattle.dqbf.proofs.Laws.Literals.{same-same, same-not}
 use Rattle.dqbf.proofs.Laws.Parts.{tail-lent}
 use Rattle.clauses.specs.Merging.{MergedTo}
-use Rattle.clauses.specs.Writing.{Held}
+use Rattle.clauses.specs.Writing.{Copied}
 use Rattle.clauses.specs.declared.resolvent.Merged.{Merged}
 use Rattle.clauses.proofs.Laws.Places.{list-end}
 use Rattle.clauses.proofs.Laws.Clauses.{without-end}
-use Rattle.clauses.proofs.Laws.Writing.{held-behind, tail-room, tail-same}
+use Rattle.clauses.proofs.Laws.Writing.{copied-behind, tail-room, tail-same}
 
 -- ---- the next literal: A and B are to be joined, with l and k in front
 
@@ -66,7 +66,7 @@ module _ {C D : Clause} {p q : ℤ} {zs : List ℤ} {r : Merged} (m : MergedTo C
   pub first-room : r .count + length firstRest ≤ length zs
   first-room = omega (arith, m .within .0, m .within .1, m .few, first-length)
 
-  module _ {ws : List ℤ} {a : ℕ} (kept : length ws ≡ length (take (length zs - r .count) (drop (r .count) zs))) (v : Held (without p firstRest) ws a) where
+  module _ {ws : List ℤ} {a : ℕ} (kept : length ws ≡ length (take (length zs - r .count) (drop (r .count) zs))) (v : Copied (without p firstRest) ws a) where
     abbrev middle : List ℤ
     middle = putMid (r .count) (length zs - r .count) zs ws
 
@@ -88,15 +88,15 @@ module _ {C D : Clause} {p q : ℤ} {zs : List ℤ} {r : Merged} (m : MergedTo C
     pub second-asked : length secondRest ≤ length (take (length middle - (r .count + a)) (drop (r .count + a) middle))
     second-asked = tail-room middle (r .count + a) second-room
 
-    pub merged-room : {us : List ℤ} {b : ℕ} → Held (without q secondRest) us b → r .count + a + b ≤ length middle
+    pub merged-room : {us : List ℤ} {b : ℕ} → Copied (without q secondRest) us b → r .count + a + b ≤ length middle
     merged-room w = omega (arith, second-room, w .count, without-short q secondRest)
 
-    pub merged-held : {us : List ℤ} {b : ℕ} → length us ≡ length (take (length middle - (r .count + a)) (drop (r .count + a) middle)) → Held (without q secondRest) us b
-        → Held (join (without p C) (without q D)) (putMid (r .count + a) (length middle - (r .count + a)) middle us) (r .count + a + b)
-    merged-held {us} {b} same w = rw whole (held-behind middle (r .count + a) (omega (arith, second-room)) same w)
+    pub merged-copied : {us : List ℤ} {b : ℕ} → length us ≡ length (take (length middle - (r .count + a)) (drop (r .count + a) middle)) → Copied (without q secondRest) us b
+        → Copied (join (without p C) (without q D)) (putMid (r .count + a) (length middle - (r .count + a)) middle us) (r .count + a + b)
+    merged-copied {us} {b} same w = rw whole (copied-behind middle (r .count + a) (omega (arith, second-room)) same w)
       where
         front : take (r .count + a) middle ≡ take (r .count) zs ++ without p (drop (r .i) C)
-        front = held-behind zs (r .count) (omega (arith, first-room)) kept v .front ∙ rw (tail-lent C (r .i))
+        front = copied-behind zs (r .count) (omega (arith, first-room)) kept v .front ∙ rw (tail-lent C (r .i))
 
         ended : (without p (drop (r .i) C) ≡ []) ⊎ (without q (drop (r .j) D) ≡ [])
         ended = go (m .ended)

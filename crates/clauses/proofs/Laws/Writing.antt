@@ -1,6 +1,6 @@
 -- Writing a list to the front of another (specs/Writing.antt), an element at a time, and over the tail of a table that is lent for it. Any element type.
 -- Offers: `Copying`, where a writer stands, with `copying-start`, `copying-kept`, `copying-passed`, `copying-done`; `Writing`, that it left the rest as it was,
--- with `writing-start`, `writing-more`, `writing-done`; of what it left, `held-behind`, `held-length`, `held-within`, `written-more`, `written-behind`;
+-- with `writing-start`, `writing-more`, `writing-done`; of what it left, `copied-behind`, `copied-length`, `copied-within`, `written-more`, `written-behind`;
 -- for a table whose tail from n on is lent, `tail-room`, what a writer into it requires, and `tail-stored`, the table after it.
 use mathlib.Core.Path.{_≡_, refl, ap, sym, _∙_}
 use mathlib.Core.List.{List, [], _∷_, _++_, append-nil}
@@ -11,7 +11,7 @@ use borrow.Rule.Slice.PartMut.{putMid}
 use lib.ListN.{length, take, drop, set, length-set, length-append, length-drop, length-take, take-append-drop}
 use lib.Seq.{append-snoc, length-take-le, drop-set-lt, take-set-le, take-suc-set, drop-drop, take-append-add}
 use Rattle.dqbf.proofs.Laws.Parts.{front-part, front-set, tail-lent, tail-back, tail-written}
-use Rattle.clauses.specs.Writing.{Written, Held}
+use Rattle.clauses.specs.Writing.{Written, Copied}
 
 module _ {A : Type 0} where
   -- ---- copying
@@ -45,15 +45,15 @@ module _ {A : Type 0} where
           parts = w .parts ∙ rw (e, take-set-le count zs count v h);
         }
 
-    pub copying-done : rest ≡ [] → Held ys zs count
+    pub copying-done : rest ≡ [] → Copied ys zs count
     copying-done e =
         let front : take count zs ≡ ys = sym (w .parts ∙ rw (e, append-nil (take count zs))) in
         record { count = sym (length-take-le count zs (w .within)) ∙ ap length front; front = front }
 
-  -- another list by value behind what stands there, over the tail that is lent from n on
-  pub held-behind : (zs : List A) (n : ℕ) → n ≤ length zs → {us ws : List A} {k : ℕ} → length ws ≡ length (take (length zs - n) (drop n zs)) → Held us ws k
-      → Held (take n zs ++ us) (putMid n (length zs - n) zs ws) (n + k)
-  held-behind zs n h {us} {ws} {k} same v =
+  -- another list copied behind what stands there, over the tail that is lent from n on
+  pub copied-behind : (zs : List A) (n : ℕ) → n ≤ length zs → {us ws : List A} {k : ℕ} → length ws ≡ length (take (length zs - n) (drop n zs)) → Copied us ws k
+      → Copied (take n zs ++ us) (putMid n (length zs - n) zs ws) (n + k)
+  copied-behind zs n h {us} {ws} {k} same v =
       let fronts : length (take n zs) ≡ n = length-take-le n zs h in
       record {
         count = omega (arith, length-append (take n zs) us, fronts, v .count);
@@ -81,17 +81,17 @@ module _ {A : Type 0} where
 
     pub writing-done : rest ≡ [] → Written ys xs zs count
     writing-done e =
-        let held : Held ys zs count = copying-done (w .copied) e in
-        record { count = held .count; left = sym (take-append-drop count zs) ∙ rw (held .front, w .behind, held .count) }
+        let done : Copied ys zs count = copying-done (w .copied) e in
+        record { count = done .count; left = sym (take-append-drop count zs) ∙ rw (done .front, w .behind, done .count) }
 
   -- ---- what was written
 
-  module _ {ys zs : List A} {n : ℕ} (w : Held ys zs n) where
-    pub held-length : n ≡ length (take n zs)
-    held-length = w .count ∙ sym (ap length (w .front))
+  module _ {ys zs : List A} {n : ℕ} (w : Copied ys zs n) where
+    pub copied-length : n ≡ length (take n zs)
+    copied-length = w .count ∙ sym (ap length (w .front))
 
-    pub held-within : n ≤ length zs
-    held-within = omega (arith, held-length, length-take n zs)
+    pub copied-within : n ≤ length zs
+    copied-within = omega (arith, copied-length, length-take n zs)
 
   module _ {ys xs zs : List A} {n : ℕ} (w : Written ys xs zs n) where
     -- one element more behind what was written

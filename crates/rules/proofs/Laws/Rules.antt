@@ -24,7 +24,7 @@ use Rattle.dqbf.proofs.Laws.Outcomes.{resolution-first, resolution-second, reso
 use Rattle.tables.specs.Tables.{Tables, modelIn, stretch, entry}
 use Rattle.tables.specs.declared.State.{State}
 use Rattle.clauses.specs.Sets.{clauseSetIn, InUse}
-use Rattle.clauses.specs.Writing.{Held}
+use Rattle.clauses.specs.Writing.{Copied}
 use Rattle.clauses.proofs.Laws.Sets.{model-clause-set, reads-single}
 use Rattle.tables.specs.Spread.{setRow}
 use Rattle.tables.proofs.Laws.Adding.{variable-count}
@@ -209,9 +209,9 @@ module _ (t : Tables) (s : State) (h : Holding t s) (c d : ℕ) (z : ℤ) {f g :
             resolution-tested (modelIn t s) c d z (known-is t s h c told known) (known-is t s h d told′ known′) (rw (first-in, not-false a held, second-in, not-false b k))
             ∙ rw (isW, q, P-is, X-is, Y-is)
 
--- a clause by value is as narrow
-pub held-narrow : {ys zs : Clause} {n k : ℕ} → Held ys zs n → length ys ≤ k → length (take n zs) ≤ k
-held-narrow w h = rw (w .front) h
+-- a copy is as narrow
+pub copied-narrow : {ys zs : Clause} {n k : ℕ} → Copied ys zs n → length ys ≤ k → length (take n zs) ≤ k
+copied-narrow w h = rw (w .front) h
 
 -- ---- universal reduction
 

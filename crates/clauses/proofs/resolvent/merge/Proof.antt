@@ -21,10 +21,10 @@ use Rattle.clauses.proofs.resolvent.merge.Lts as lts
 use Rattle.clauses.proofs.resolvent.rank.Reads as rank-reads
 
 abbrev Inv-loop : tie.InvT-loop
-Inv-loop held₀ first pivot second complement n m i₀ j₀ count₀ held i j count = (i ≤ length first) × (j ≤ length second) × (count ≤ i + j) × Copying (join (without (toZ w16 pivot) first) (without (toZ w16 complement) second)) held₀ held count (join (without (toZ w16 pivot) (drop i first)) (without (toZ w16 complement) (drop j second)))
+Inv-loop copy₀ first pivot second complement n m i₀ j₀ count₀ copy i j count = (i ≤ length first) × (j ≤ length second) × (count ≤ i + j) × Copying (join (without (toZ w16 pivot) first) (without (toZ w16 complement) second)) copy₀ copy count (join (without (toZ w16 pivot) (drop i first)) (without (toZ w16 complement) (drop j second)))
 
 abbrev μ-loop : tie.MeasureT-loop
-μ-loop held₀ first pivot second complement n m i₀ j₀ count₀ held i j count = length first + length second - (i + j)
+μ-loop copy₀ first pivot second complement n m i₀ j₀ count₀ copy i j count = length first + length second - (i + j)
 
 -- src/resolvent.rt:45:5
 loop-holds : tie.Need-loop-holds Inv-loop μ-loop

@@ -5,8 +5,8 @@ use lib.Seq.{length-take-le}
 use mir.Facts.{toZ-ofZ}
 use Rattle.dqbf.proofs.Laws.Signed.{kept16}
 use Rattle.tables.proofs.Laws.Formed.{long-is, formed-is}
-use Rattle.clauses.proofs.Laws.Writing.{held-length, held-within}
-use Rattle.rules.proofs.Laws.Rules.{ranged, ranged-narrow, reduced-narrow, held-narrow, rest-in-use, reduce-unknown, reduce-absent, reduce-other, reduce-read, reduce-added}
+use Rattle.clauses.proofs.Laws.Writing.{copied-length, copied-within}
+use Rattle.rules.proofs.Laws.Rules.{ranged, ranged-narrow, reduced-narrow, copied-narrow, rest-in-use, reduce-unknown, reduce-absent, reduce-other, reduce-read, reduce-added}
 use Rattle.rules.proofs.rules.reduce.Statement.{statement}
 use Rattle.rules.proofs.rules.reduce.Tie as tie
 use Rattle.rules.proofs.rules.reduce.Reads as reads
@@ -72,8 +72,8 @@ variable-of-requires : tie.Need-variable-of-requires
 variable-of-requires c κs = search needs
 
 -- src/rules.rt:85:35
-cast-t25 : tie.Need-cast-t25
-cast-t25 c = search needs
+cast-t26 : tie.Need-cast-t26
+cast-t26 c = search needs
 
 -- src/rules.rt:86:8
 kind-of-requires : tie.Need-kind-of-requires
@@ -103,71 +103,67 @@ returns-3 c =
 set-of-requires : tie.Need-set-of-requires
 set-of-requires c κs = search needs
 
--- src/rules.rt:91:32
-slice-aggregate-hold-without : tie.Need-slice-aggregate-hold-without
-slice-aggregate-hold-without c = search needs
-
--- src/rules.rt:91:9
+-- src/rules.rt:90:9
 hold-without-requires : tie.Need-hold-without-requires
-hold-without-requires c κs = ranged-narrow _ _ (c .before .before .before .before .before .before .before .before .before .before .before .before .before .before .before .before .pre) _ (c .before .before .before .before .before .before .before .before .before .before .before .before .is-unknown .ensures) (c .before .before .before .before .before .before .before .before .before .before .before .if1 .left) (c .before .before .before .before .before .before .before .clause-at .ensures)
+hold-without-requires c κs = ranged-narrow _ _ (c .before .before .before .before .before .before .before .before .before .before .before .before .before .before .before .pre) _ (c .before .before .before .before .before .before .before .before .before .before .before .is-unknown .ensures) (c .before .before .before .before .before .before .before .before .before .before .if1 .left) (c .before .before .before .before .before .before .clause-at .ensures)
 
--- src/rules.rt:93:16
+-- src/rules.rt:94:16
 cast-used : tie.Need-cast-used
 cast-used c = search needs
 
--- src/rules.rt:94:41
+-- src/rules.rt:96:41
 array-share-prefix-rest : tie.Need-array-share-prefix-rest
-array-share-prefix-rest c = held-within (c .before .before .before .hold-without .ensures)
+array-share-prefix-rest c = copied-within (c .before .before .before .hold-without .ensures .copied)
 
--- src/rules.rt:94:41
+-- src/rules.rt:96:41
 slice-aggregate-clause-set : tie.Need-slice-aggregate-clause-set
-slice-aggregate-clause-set c = held-length (c .before .before .before .before .hold-without .ensures)
+slice-aggregate-clause-set c = copied-length (c .before .before .before .before .hold-without .ensures .copied)
 
--- src/rules.rt:94:53
+-- src/rules.rt:96:53
 slice-aggregate-clause-set-2 : tie.Need-slice-aggregate-clause-set-2
-slice-aggregate-clause-set-2 c = sym (length-take-le _ (c .before .before .before .before .before .before .before .before .before .before .before .before .before .before .before .before .before .before .before .before .before .before .args .sets .now) (omega (arith, formed-is _ _ (c .before .before .before .before .before .before .before .before .before .before .before .before .before .before .before .before .before .before .before .before .before .before .pre .formed) .counts .variables, long-is _ (c .before .before .before .before .before .before .before .before .before .before .before .before .before .before .before .before .before .before .before .before .before .before .pre .lent) .sets)))
+slice-aggregate-clause-set-2 c = sym (length-take-le _ (c .before .before .before .before .before .before .before .before .before .before .before .before .before .before .before .before .before .before .before .before .before .args .sets .now) (omega (arith, formed-is _ _ (c .before .before .before .before .before .before .before .before .before .before .before .before .before .before .before .before .before .before .before .before .before .pre .formed) .counts .variables, long-is _ (c .before .before .before .before .before .before .before .before .before .before .before .before .before .before .before .before .before .before .before .before .before .pre .lent) .sets)))
 
--- src/rules.rt:94:9
+-- src/rules.rt:96:9
 clause-set-requires : tie.Need-clause-set-requires
-clause-set-requires c κs = rest-in-use _ _ (c .before .before .before .before .before .before .before .before .before .before .before .before .before .before .before .before .before .before .before .before .before .before .pre) _ (c .before .before .before .before .before .before .before .before .before .before .before .before .before .before .before .before .before .before .is-unknown .ensures) (c .before .before .before .before .before .before .before .before .before .before .before .before .before .before .before .before .before .if1 .left) (c .before .before .before .before .before .before .before .before .before .before .before .before .before .clause-at .ensures) _ (c .before .before .before .before .before .hold-without .ensures .front) refl
+clause-set-requires c κs = rest-in-use _ _ (c .before .before .before .before .before .before .before .before .before .before .before .before .before .before .before .before .before .before .before .before .before .pre) _ (c .before .before .before .before .before .before .before .before .before .before .before .before .before .before .before .before .before .is-unknown .ensures) (c .before .before .before .before .before .before .before .before .before .before .before .before .before .before .before .before .if1 .left) (c .before .before .before .before .before .before .before .before .before .before .before .before .clause-at .ensures) _ (c .before .before .before .before .before .hold-without .ensures .copied .front) refl
 
--- src/rules.rt:95:8
+-- src/rules.rt:97:8
 inside-requires : tie.Need-inside-requires
 inside-requires c κs = search needs
 
--- src/rules.rt:96:9
+-- src/rules.rt:98:9
 refused-requires-4 : tie.Need-refused-requires-4
 refused-requires-4 c κs = search needs
 
--- src/rules.rt:96:9
+-- src/rules.rt:98:9
 same-length-5 : tie.Need-same-length-5
 same-length-5 c = search needs
 
--- src/rules.rt:96:9
+-- src/rules.rt:98:9
 same-length-6 : tie.Need-same-length-6
 same-length-6 c = search needs
 
--- src/rules.rt:96:9
+-- src/rules.rt:98:9
 returns-4 : tie.Need-returns-4
 returns-4 c =
-    let p = rw (toZ-ofZ (c .before .before .before .before .before .before .before .before .before .before .before .before .before .before .before .before .before .before .before .before .before .before .before .before .before .before .fits .value)) at (c .before .before .before .before .before .before .before .before .before .before .before .before .before .before .before .before .before .before .before .before .narrowed .ensures) in
-    let a = rw (kept16 {z = c .before .before .before .before .before .before .before .before .before .before .before .before .before .before .before .before .before .before .before .before .narrowed .result} (c .before .before .before .before .before .before .before .before .before .before .before .before .before .before .before .before .before .before .before .before .narrowed .ok)) at (c .before .before .before .before .before .before .before .before .before .before .before .before .before .before .before .before .holds .ensures) in
-    let k = rw (c .before .before .before .before .before .before .before .before .before .before .before .before .before .before .variable-of .ensures, kept16 {z = c .before .before .before .before .before .before .before .before .before .before .before .before .before .before .before .before .before .before .before .before .narrowed .result} (c .before .before .before .before .before .before .before .before .before .before .before .before .before .before .before .before .before .before .before .before .narrowed .ok)) at (c .before .before .before .before .before .before .before .before .before .before .before .before .before .kind-of .ensures) in
-    let w = rw (c .before .before .before .before .before .before .before .before .before .before .before .before .before .before .variable-of .ensures, kept16 {z = c .before .before .before .before .before .before .before .before .before .before .before .before .before .before .before .before .before .before .before .before .narrowed .result} (c .before .before .before .before .before .before .before .before .before .before .before .before .before .before .before .before .before .before .before .before .narrowed .ok)) at (c .before .before .before .before .before .before .before .before .before .before .before .set-of .ensures) in
-    let e = (rw (kept16 {z = c .before .before .before .before .before .before .before .before .before .before .before .before .before .before .before .before .before .before .before .before .narrowed .result} (c .before .before .before .before .before .before .before .before .before .before .before .before .before .before .before .before .before .before .before .before .narrowed .ok)) at (c .before .before .before .before .before .before .before .before .before .hold-without .ensures)) .front in
-    reduce-read _ _ (c .before .before .before .before .before .before .before .before .before .before .before .before .before .before .before .before .before .before .before .before .before .before .before .before .before .before .pre) _ _ (c .before .before .before .before .before .before .before .before .before .before .before .before .before .before .before .before .before .before .before .before .before .before .is-unknown .ensures) (c .before .before .before .before .before .before .before .before .before .before .before .before .before .before .before .before .before .before .before .before .before .if1 .left) (c .before .before .before .before .before .before .before .before .before .before .before .before .before .before .before .before .before .clause-at .ensures) p a (c .before .before .before .before .before .before .before .before .before .before .before .before .before .before .before .if2 .left) k (c .before .before .before .before .before .before .before .before .before .before .before .before .if3 .left) w e refl (c .before .before .before .clause-set .ensures) (c .before .before .inside .ensures) (c .before .if4 .taken) (c .refused4 .ensures)
+    let p = rw (toZ-ofZ (c .before .before .before .before .before .before .before .before .before .before .before .before .before .before .before .before .before .before .before .before .before .before .before .before .before .fits .value)) at (c .before .before .before .before .before .before .before .before .before .before .before .before .before .before .before .before .before .before .before .narrowed .ensures) in
+    let a = rw (kept16 {z = c .before .before .before .before .before .before .before .before .before .before .before .before .before .before .before .before .before .before .before .narrowed .result} (c .before .before .before .before .before .before .before .before .before .before .before .before .before .before .before .before .before .before .before .narrowed .ok)) at (c .before .before .before .before .before .before .before .before .before .before .before .before .before .before .before .holds .ensures) in
+    let k = rw (c .before .before .before .before .before .before .before .before .before .before .before .before .before .variable-of .ensures, kept16 {z = c .before .before .before .before .before .before .before .before .before .before .before .before .before .before .before .before .before .before .before .narrowed .result} (c .before .before .before .before .before .before .before .before .before .before .before .before .before .before .before .before .before .before .before .narrowed .ok)) at (c .before .before .before .before .before .before .before .before .before .before .before .before .kind-of .ensures) in
+    let w = rw (c .before .before .before .before .before .before .before .before .before .before .before .before .before .variable-of .ensures, kept16 {z = c .before .before .before .before .before .before .before .before .before .before .before .before .before .before .before .before .before .before .before .narrowed .result} (c .before .before .before .before .before .before .before .before .before .before .before .before .before .before .before .before .before .before .before .narrowed .ok)) at (c .before .before .before .before .before .before .before .before .before .before .set-of .ensures) in
+    let e = (rw (kept16 {z = c .before .before .before .before .before .before .before .before .before .before .before .before .before .before .before .before .before .before .before .narrowed .result} (c .before .before .before .before .before .before .before .before .before .before .before .before .before .before .before .before .before .before .before .narrowed .ok)) at (c .before .before .before .before .before .before .before .before .before .hold-without .ensures .copied)) .front in
+    reduce-read _ _ (c .before .before .before .before .before .before .before .before .before .before .before .before .before .before .before .before .before .before .before .before .before .before .before .before .before .pre) _ _ (c .before .before .before .before .before .before .before .before .before .before .before .before .before .before .before .before .before .before .before .before .before .is-unknown .ensures) (c .before .before .before .before .before .before .before .before .before .before .before .before .before .before .before .before .before .before .before .before .if1 .left) (c .before .before .before .before .before .before .before .before .before .before .before .before .before .before .before .before .clause-at .ensures) p a (c .before .before .before .before .before .before .before .before .before .before .before .before .before .before .if2 .left) k (c .before .before .before .before .before .before .before .before .before .before .before .if3 .left) w e refl (c .before .before .before .clause-set .ensures) (c .before .before .inside .ensures) (c .before .if4 .taken) (c .refused4 .ensures)
 
--- src/rules.rt:98:21
+-- src/rules.rt:100:21
 array-share-prefix-rest-2 : tie.Need-array-share-prefix-rest-2
-array-share-prefix-rest-2 c = held-within (c .before .before .before .before .before .before .before .before .hold-without .ensures)
+array-share-prefix-rest-2 c = copied-within (c .before .before .before .before .before .before .before .before .hold-without .ensures .copied)
 
--- src/rules.rt:98:21
+-- src/rules.rt:100:21
 slice-aggregate-add-one : tie.Need-slice-aggregate-add-one
-slice-aggregate-add-one c = held-length (c .before .before .before .before .before .before .before .before .before .hold-without .ensures)
+slice-aggregate-add-one c = copied-length (c .before .before .before .before .before .before .before .before .before .hold-without .ensures .copied)
 
--- src/rules.rt:98:5
+-- src/rules.rt:100:5
 add-one-requires : tie.Need-add-one-requires
-add-one-requires c κs = (c .before .before .before .before .before .before .before .before .before .before .before .before .before .before .before .before .before .before .before .before .before .before .before .before .before .before .before .before .pre, held-narrow (c .before .before .before .before .before .before .before .before .before .before .before .hold-without .ensures) (reduced-narrow _ _ (c .before .before .before .before .before .before .before .before .before .before .before .before .before .before .before .before .before .before .before .before .before .before .before .before .before .before .before .before .pre) _ (c .before .before .before .before .before .before .before .before .before .before .before .before .before .before .before .before .before .before .before .before .before .before .before .before .is-unknown .ensures) (c .before .before .before .before .before .before .before .before .before .before .before .before .before .before .before .before .before .before .before .before .before .before .before .if1 .left) _ (c .before .before .before .before .before .before .before .before .before .before .before .before .before .before .before .before .before .before .before .clause-at .ensures) _))
+add-one-requires c κs = (c .before .before .before .before .before .before .before .before .before .before .before .before .before .before .before .before .before .before .before .before .before .before .before .before .before .before .before .pre, copied-narrow (c .before .before .before .before .before .before .before .before .before .before .before .hold-without .ensures .copied) (reduced-narrow _ _ (c .before .before .before .before .before .before .before .before .before .before .before .before .before .before .before .before .before .before .before .before .before .before .before .before .before .before .before .pre) _ (c .before .before .before .before .before .before .before .before .before .before .before .before .before .before .before .before .before .before .before .before .before .before .before .is-unknown .ensures) (c .before .before .before .before .before .before .before .before .before .before .before .before .before .before .before .before .before .before .before .before .before .before .if1 .left) _ (c .before .before .before .before .before .before .before .before .before .before .before .before .before .before .before .before .before .before .clause-at .ensures) _))
 
 -- src/rules.rt:62:1
 same-length-7 : tie.Need-same-length-7
@@ -180,12 +176,12 @@ same-length-8 c = search needs
 -- src/rules.rt:62:1
 returns-5 : tie.Need-returns-5
 returns-5 c =
-    let p = rw (toZ-ofZ (c .before .before .before .before .before .before .before .before .before .before .before .before .before .before .before .before .before .before .before .before .before .before .before .before .before .before .before .before .before .before .before .before .fits .value)) at (c .before .before .before .before .before .before .before .before .before .before .before .before .before .before .before .before .before .before .before .before .before .before .before .before .before .before .narrowed .ensures) in
-    let a = rw (kept16 {z = c .before .before .before .before .before .before .before .before .before .before .before .before .before .before .before .before .before .before .before .before .before .before .before .before .before .before .narrowed .result} (c .before .before .before .before .before .before .before .before .before .before .before .before .before .before .before .before .before .before .before .before .before .before .before .before .before .before .narrowed .ok)) at (c .before .before .before .before .before .before .before .before .before .before .before .before .before .before .before .before .before .before .before .before .before .before .holds .ensures) in
-    let k = rw (c .before .before .before .before .before .before .before .before .before .before .before .before .before .before .before .before .before .before .before .before .variable-of .ensures, kept16 {z = c .before .before .before .before .before .before .before .before .before .before .before .before .before .before .before .before .before .before .before .before .before .before .before .before .before .before .narrowed .result} (c .before .before .before .before .before .before .before .before .before .before .before .before .before .before .before .before .before .before .before .before .before .before .before .before .before .before .narrowed .ok)) at (c .before .before .before .before .before .before .before .before .before .before .before .before .before .before .before .before .before .before .before .kind-of .ensures) in
-    let w = rw (c .before .before .before .before .before .before .before .before .before .before .before .before .before .before .before .before .before .before .before .before .variable-of .ensures, kept16 {z = c .before .before .before .before .before .before .before .before .before .before .before .before .before .before .before .before .before .before .before .before .before .before .before .before .before .before .narrowed .result} (c .before .before .before .before .before .before .before .before .before .before .before .before .before .before .before .before .before .before .before .before .before .before .before .before .before .before .narrowed .ok)) at (c .before .before .before .before .before .before .before .before .before .before .before .before .before .before .before .before .before .set-of .ensures) in
-    let e = (rw (kept16 {z = c .before .before .before .before .before .before .before .before .before .before .before .before .before .before .before .before .before .before .before .before .before .before .before .before .before .before .narrowed .result} (c .before .before .before .before .before .before .before .before .before .before .before .before .before .before .before .before .before .before .before .before .before .before .before .before .before .before .narrowed .ok)) at (c .before .before .before .before .before .before .before .before .before .before .before .before .before .before .before .hold-without .ensures)) .front in
-    rw (reduce-added _ _ (c .before .before .before .before .before .before .before .before .before .before .before .before .before .before .before .before .before .before .before .before .before .before .before .before .before .before .before .before .before .before .before .before .pre) _ _ (c .before .before .before .before .before .before .before .before .before .before .before .before .before .before .before .before .before .before .before .before .before .before .before .before .before .before .before .before .is-unknown .ensures) (c .before .before .before .before .before .before .before .before .before .before .before .before .before .before .before .before .before .before .before .before .before .before .before .before .before .before .before .if1 .left) (c .before .before .before .before .before .before .before .before .before .before .before .before .before .before .before .before .before .before .before .before .before .before .before .clause-at .ensures) p a (c .before .before .before .before .before .before .before .before .before .before .before .before .before .before .before .before .before .before .before .before .before .if2 .left) k (c .before .before .before .before .before .before .before .before .before .before .before .before .before .before .before .before .before .before .if3 .left) w e refl (c .before .before .before .before .before .before .before .before .before .clause-set .ensures) (c .before .before .before .before .before .before .before .before .inside .ensures) (c .before .before .before .before .before .before .before .if4 .left)) (c .before .before .before .add-one .ensures)
+    let p = rw (toZ-ofZ (c .before .before .before .before .before .before .before .before .before .before .before .before .before .before .before .before .before .before .before .before .before .before .before .before .before .before .before .before .before .before .before .fits .value)) at (c .before .before .before .before .before .before .before .before .before .before .before .before .before .before .before .before .before .before .before .before .before .before .before .before .before .narrowed .ensures) in
+    let a = rw (kept16 {z = c .before .before .before .before .before .before .before .before .before .before .before .before .before .before .before .before .before .before .before .before .before .before .before .before .before .narrowed .result} (c .before .before .before .before .before .before .before .before .before .before .before .before .before .before .before .before .before .before .before .before .before .before .before .before .before .narrowed .ok)) at (c .before .before .before .before .before .before .before .before .before .before .before .before .before .before .before .before .before .before .before .before .before .holds .ensures) in
+    let k = rw (c .before .before .before .before .before .before .before .before .before .before .before .before .before .before .before .before .before .before .before .variable-of .ensures, kept16 {z = c .before .before .before .before .before .before .before .before .before .before .before .before .before .before .before .before .before .before .before .before .before .before .before .before .before .narrowed .result} (c .before .before .before .before .before .before .before .before .before .before .before .before .before .before .before .before .before .before .before .before .before .before .before .before .before .narrowed .ok)) at (c .before .before .before .before .before .before .before .before .before .before .before .before .before .before .before .before .before .before .kind-of .ensures) in
+    let w = rw (c .before .before .before .before .before .before .before .before .before .before .before .before .before .before .before .before .before .before .before .variable-of .ensures, kept16 {z = c .before .before .before .before .before .before .before .before .before .before .before .before .before .before .before .before .before .before .before .before .before .before .before .before .before .narrowed .result} (c .before .before .before .before .before .before .before .before .before .before .before .before .before .before .before .before .before .before .before .before .before .before .before .before .before .narrowed .ok)) at (c .before .before .before .before .before .before .before .before .before .before .before .before .before .before .before .before .set-of .ensures) in
+    let e = (rw (kept16 {z = c .before .before .before .before .before .before .before .before .before .before .before .before .before .before .before .before .before .before .before .before .before .before .before .before .before .narrowed .result} (c .before .before .before .before .before .before .before .before .before .before .before .before .before .before .before .before .before .before .before .before .before .before .before .before .before .narrowed .ok)) at (c .before .before .before .before .before .before .before .before .before .before .before .before .before .before .before .hold-without .ensures .copied)) .front in
+    rw (reduce-added _ _ (c .before .before .before .before .before .before .before .before .before .before .before .before .before .before .before .before .before .before .before .before .before .before .before .before .before .before .before .before .before .before .before .pre) _ _ (c .before .before .before .before .before .before .before .before .before .before .before .before .before .before .before .before .before .before .before .before .before .before .before .before .before .before .before .is-unknown .ensures) (c .before .before .before .before .before .before .before .before .before .before .before .before .before .before .before .before .before .before .before .before .before .before .before .before .before .before .if1 .left) (c .before .before .before .before .before .before .before .before .before .before .before .before .before .before .before .before .before .before .before .before .before .before .clause-at .ensures) p a (c .before .before .before .before .before .before .before .before .before .before .before .before .before .before .before .before .before .before .before .before .if2 .left) k (c .before .before .before .before .before .before .before .before .before .before .before .before .before .before .before .before .before .if3 .left) w e refl (c .before .before .before .before .before .before .before .before .before .clause-set .ensures) (c .before .before .before .before .before .before .before .before .inside .ensures) (c .before .before .before .before .before .before .before .if4 .left)) (c .before .before .before .add-one .ensures)
 
 pub reduce-spec : {M : Type 1} → statement M
 reduce-spec =
@@ -202,14 +198,13 @@ reduce-spec =
     same-length-2
     returns-2
     variable-of-requires
-    cast-t25
+    cast-t26
     kind-of-requires
     refused-requires-3
     same-length-3
     same-length-4
     returns-3
     set-of-requires
-    slice-aggregate-hold-without
     hold-without-requires
     cast-used
     array-share-prefix-rest

@@ -3,7 +3,7 @@ use mathlib.Core.Path.{refl}
 use native.Mathlib.Omega.{arith}
 use mir.Facts.{toZ-ofZ}
 use Rattle.dqbf.proofs.Laws.Signed.{kept16}
-use Rattle.clauses.proofs.Laws.Writing.{held-length, held-within}
+use Rattle.clauses.proofs.Laws.Writing.{copied-length, copied-within}
 use Rattle.rules.proofs.Laws.Pivots.{literal-small}
 use Rattle.rules.proofs.Laws.Rules.{ranged, ranged-narrow, resolve-first, resolve-second, resolve-pivot, resolve-complement, resolve-tested}
 use Rattle.rules.proofs.rules.resolve.Statement.{statement}
@@ -19,63 +19,63 @@ use Rattle.dqbf.proofs.literal.negated.Reads as negated-reads
 use Rattle.rules.proofs.clause.clause_at.Reads as clause-at-reads
 use Rattle.rules.proofs.clause.is_unknown.Reads as is-unknown-reads
 
--- src/rules.rt:40:8
+-- src/rules.rt:39:8
 is-unknown-requires : tie.Need-is-unknown-requires
 is-unknown-requires c κs = search needs
 
--- src/rules.rt:41:9
+-- src/rules.rt:40:9
 refused-requires : tie.Need-refused-requires
 refused-requires c κs = search needs
 
--- src/rules.rt:41:9
+-- src/rules.rt:40:9
 returns : tie.Need-returns
 returns c = resolve-first _ _ (c .before .before .before .before .before .before .pre) _ _ _ (c .before .before .is-unknown .ensures) refl (c .before .if1 .taken) (c .refused .ensures)
 
--- src/rules.rt:43:8
+-- src/rules.rt:42:8
 is-unknown-requires-2 : tie.Need-is-unknown-requires-2
 is-unknown-requires-2 c κs = search needs
 
--- src/rules.rt:44:9
+-- src/rules.rt:43:9
 refused-requires-2 : tie.Need-refused-requires-2
 refused-requires-2 c κs = search needs
 
--- src/rules.rt:44:9
+-- src/rules.rt:43:9
 returns-2 : tie.Need-returns-2
 returns-2 c = resolve-second _ _ (c .before .before .before .before .before .before .before .before .pre) _ _ _ (c .before .before .before .before .is-unknown .ensures) (c .before .before .is-unknown2 .ensures) (c .before .before .before .if1 .left) (c .before .if2 .taken) (c .refused2 .ensures)
 
--- src/rules.rt:46:9
+-- src/rules.rt:45:9
 narrowed-requires : tie.Need-narrowed-requires
 narrowed-requires c κs = search needs
 
--- src/rules.rt:47:9
+-- src/rules.rt:46:9
 negated-requires : tie.Need-negated-requires
 negated-requires c κs = let p = rw (toZ-ofZ (c .before .before .before .before .before .before .before .before .fits .pivot)) at (c .narrowed .ensures) in rw (kept16 {z = c .narrowed .result} (c .narrowed .ok), p) (let b = literal-small (c .before .before .before .before .before .before .before .before .args .pivot) in omega arith)
 
--- src/rules.rt:48:9
+-- src/rules.rt:47:9
 clause-at-requires : tie.Need-clause-at-requires
 clause-at-requires c κs = ranged _ _ (c .before .before .before .before .before .before .before .before .before .before .before .pre) _ (c .before .before .before .before .before .before .before .is-unknown .ensures) (c .before .before .before .before .before .before .if1 .left)
 
--- src/rules.rt:49:9
+-- src/rules.rt:48:9
 clause-at-requires-2 : tie.Need-clause-at-requires-2
 clause-at-requires-2 c κs = ranged _ _ (c .before .before .before .before .before .before .before .before .before .before .before .before .before .pre) _ (c .before .before .before .before .before .before .before .is-unknown2 .ensures) (c .before .before .before .before .before .before .if2 .left)
 
--- src/rules.rt:50:9
+-- src/rules.rt:49:9
 holds-requires : tie.Need-holds-requires
 holds-requires c κs = search needs
 
--- src/rules.rt:51:9
+-- src/rules.rt:50:9
 refused-requires-3 : tie.Need-refused-requires-3
 refused-requires-3 c κs = search needs
 
--- src/rules.rt:51:9
+-- src/rules.rt:50:9
 same-length : tie.Need-same-length
 same-length c = search needs
 
--- src/rules.rt:51:9
+-- src/rules.rt:50:9
 same-length-2 : tie.Need-same-length-2
 same-length-2 c = search needs
 
--- src/rules.rt:51:9
+-- src/rules.rt:50:9
 returns-3 : tie.Need-returns-3
 returns-3 c =
     let p = rw (toZ-ofZ (c .before .before .before .before .before .before .before .before .before .before .before .before .before .before .before .before .before .fits .pivot)) at (c .before .before .before .before .before .before .before .before .before .narrowed .ensures) in
@@ -83,23 +83,23 @@ returns-3 c =
     let a = rw (kept16 {z = c .before .before .before .before .before .before .before .before .before .narrowed .result} (c .before .before .before .before .before .before .before .before .before .narrowed .ok)) at (c .before .before .holds .ensures) in
     resolve-pivot _ _ (c .before .before .before .before .before .before .before .before .before .before .before .before .before .before .before .before .before .pre) _ _ _ (c .before .before .before .before .before .before .before .before .before .before .before .before .before .is-unknown .ensures) (c .before .before .before .before .before .before .before .before .before .before .before .is-unknown2 .ensures) (c .before .before .before .before .before .before .before .before .before .before .before .before .if1 .left) (c .before .before .before .before .before .before .before .before .before .before .if2 .left) (c .before .before .before .before .before .clause-at .ensures) (c .before .before .before .clause-at2 .ensures) p q a (c .before .if3 .taken) (c .refused3 .ensures)
 
--- src/rules.rt:53:9
+-- src/rules.rt:52:9
 holds-requires-2 : tie.Need-holds-requires-2
 holds-requires-2 c κs = search needs
 
--- src/rules.rt:54:9
+-- src/rules.rt:53:9
 refused-requires-4 : tie.Need-refused-requires-4
 refused-requires-4 c κs = search needs
 
--- src/rules.rt:54:9
+-- src/rules.rt:53:9
 same-length-3 : tie.Need-same-length-3
 same-length-3 c = search needs
 
--- src/rules.rt:54:9
+-- src/rules.rt:53:9
 same-length-4 : tie.Need-same-length-4
 same-length-4 c = search needs
 
--- src/rules.rt:54:9
+-- src/rules.rt:53:9
 returns-4 : tie.Need-returns-4
 returns-4 c =
     let p = rw (toZ-ofZ (c .before .before .before .before .before .before .before .before .before .before .before .before .before .before .before .before .before .before .before .fits .pivot)) at (c .before .before .before .before .before .before .before .before .before .before .before .narrowed .ensures) in
@@ -108,43 +108,39 @@ returns-4 c =
     let b = rw (kept16 {z = c .before .before .before .before .before .before .before .before .before .before .negated .result} (c .before .before .before .before .before .before .before .before .before .before .negated .ok)) at (c .before .before .holds2 .ensures) in
     resolve-complement _ _ (c .before .before .before .before .before .before .before .before .before .before .before .before .before .before .before .before .before .before .before .pre) _ _ _ (c .before .before .before .before .before .before .before .before .before .before .before .before .before .before .before .is-unknown .ensures) (c .before .before .before .before .before .before .before .before .before .before .before .before .before .is-unknown2 .ensures) (c .before .before .before .before .before .before .before .before .before .before .before .before .before .before .if1 .left) (c .before .before .before .before .before .before .before .before .before .before .before .before .if2 .left) (c .before .before .before .before .before .before .before .clause-at .ensures) (c .before .before .before .before .before .clause-at2 .ensures) p q a (c .before .before .before .if3 .left) b (c .before .if4 .taken) (c .refused4 .ensures)
 
--- src/rules.rt:57:43
-slice-aggregate-hold-resolvent : tie.Need-slice-aggregate-hold-resolvent
-slice-aggregate-hold-resolvent c = search needs
-
--- src/rules.rt:57:9
+-- src/rules.rt:55:9
 hold-resolvent-requires : tie.Need-hold-resolvent-requires
-hold-resolvent-requires c κs = omega (arith, ranged-narrow _ _ (c .before .before .before .before .before .before .before .before .before .before .before .before .before .before .before .before .before .before .before .pre) _ (c .before .before .before .before .before .before .before .before .before .before .before .before .before .before .before .is-unknown .ensures) (c .before .before .before .before .before .before .before .before .before .before .before .before .before .before .if1 .left) (c .before .before .before .before .before .before .before .clause-at .ensures), ranged-narrow _ _ (c .before .before .before .before .before .before .before .before .before .before .before .before .before .before .before .before .before .before .before .pre) _ (c .before .before .before .before .before .before .before .before .before .before .before .before .before .is-unknown2 .ensures) (c .before .before .before .before .before .before .before .before .before .before .before .before .if2 .left) (c .before .before .before .before .before .clause-at2 .ensures))
+hold-resolvent-requires c κs = (ranged-narrow _ _ (c .before .before .before .before .before .before .before .before .before .before .before .before .before .before .before .before .before .before .pre) _ (c .before .before .before .before .before .before .before .before .before .before .before .before .before .before .is-unknown .ensures) (c .before .before .before .before .before .before .before .before .before .before .before .before .before .if1 .left) (c .before .before .before .before .before .before .clause-at .ensures), ranged-narrow _ _ (c .before .before .before .before .before .before .before .before .before .before .before .before .before .before .before .before .before .before .pre) _ (c .before .before .before .before .before .before .before .before .before .before .before .before .is-unknown2 .ensures) (c .before .before .before .before .before .before .before .before .before .before .before .if2 .left) (c .before .before .before .before .clause-at2 .ensures))
 
 -- src/rules.rt:58:27
 array-share-prefix-whole : tie.Need-array-share-prefix-whole
-array-share-prefix-whole c = held-within (c .before .hold-resolvent .ensures)
+array-share-prefix-whole c = copied-within (c .before .hold-resolvent .ensures .copied)
 
 -- src/rules.rt:58:27
 slice-aggregate-add-resolvent : tie.Need-slice-aggregate-add-resolvent
-slice-aggregate-add-resolvent c = held-length (c .before .before .hold-resolvent .ensures)
+slice-aggregate-add-resolvent c = copied-length (c .before .before .hold-resolvent .ensures .copied)
 
 -- src/rules.rt:58:5
 add-resolvent-requires : tie.Need-add-resolvent-requires
 add-resolvent-requires c κs = search needs
 
--- src/rules.rt:24:1
+-- src/rules.rt:23:1
 same-length-5 : tie.Need-same-length-5
 same-length-5 c = search needs
 
--- src/rules.rt:24:1
+-- src/rules.rt:23:1
 same-length-6 : tie.Need-same-length-6
 same-length-6 c = search needs
 
--- src/rules.rt:24:1
+-- src/rules.rt:23:1
 returns-5 : tie.Need-returns-5
 returns-5 c =
-    let p = rw (toZ-ofZ (c .before .before .before .before .before .before .before .before .before .before .before .before .before .before .before .before .before .before .before .before .before .before .before .before .before .before .before .before .fits .pivot)) at (c .before .before .before .before .before .before .before .before .before .before .before .before .before .before .before .before .before .before .before .before .narrowed .ensures) in
-    let q = rw (kept16 {z = c .before .before .before .before .before .before .before .before .before .before .before .before .before .before .before .before .before .before .before .before .narrowed .result} (c .before .before .before .before .before .before .before .before .before .before .before .before .before .before .before .before .before .before .before .before .narrowed .ok)) at (c .before .before .before .before .before .before .before .before .before .before .before .before .before .before .before .before .before .before .before .negated .ensures) in
-    let a = rw (kept16 {z = c .before .before .before .before .before .before .before .before .before .before .before .before .before .before .before .before .before .before .before .before .narrowed .result} (c .before .before .before .before .before .before .before .before .before .before .before .before .before .before .before .before .before .before .before .before .narrowed .ok)) at (c .before .before .before .before .before .before .before .before .before .before .before .before .before .holds .ensures) in
-    let b = rw (kept16 {z = c .before .before .before .before .before .before .before .before .before .before .before .before .before .before .before .before .before .before .before .negated .result} (c .before .before .before .before .before .before .before .before .before .before .before .before .before .before .before .before .before .before .before .negated .ok)) at (c .before .before .before .before .before .before .before .before .before .before .before .holds2 .ensures) in
-    let w = (rw (kept16 {z = c .before .before .before .before .before .before .before .before .before .before .before .before .before .before .before .before .before .before .before .before .narrowed .result} (c .before .before .before .before .before .before .before .before .before .before .before .before .before .before .before .before .before .before .before .before .narrowed .ok), kept16 {z = c .before .before .before .before .before .before .before .before .before .before .before .before .before .before .before .before .before .before .before .negated .result} (c .before .before .before .before .before .before .before .before .before .before .before .before .before .before .before .before .before .before .before .negated .ok)) at (c .before .before .before .before .before .before .before .before .hold-resolvent .ensures)) .front in
-    rw (resolve-tested _ _ (c .before .before .before .before .before .before .before .before .before .before .before .before .before .before .before .before .before .before .before .before .before .before .before .before .before .before .before .before .pre) _ _ _ (c .before .before .before .before .before .before .before .before .before .before .before .before .before .before .before .before .before .before .before .before .before .before .before .before .is-unknown .ensures) (c .before .before .before .before .before .before .before .before .before .before .before .before .before .before .before .before .before .before .before .before .before .before .is-unknown2 .ensures) (c .before .before .before .before .before .before .before .before .before .before .before .before .before .before .before .before .before .before .before .before .before .before .before .if1 .left) (c .before .before .before .before .before .before .before .before .before .before .before .before .before .before .before .before .before .before .before .before .before .if2 .left) (c .before .before .before .before .before .before .before .before .before .before .before .before .before .before .before .before .clause-at .ensures) (c .before .before .before .before .before .before .before .before .before .before .before .before .before .before .clause-at2 .ensures) p q a (c .before .before .before .before .before .before .before .before .before .before .before .before .if3 .left) b (c .before .before .before .before .before .before .before .before .before .before .if4 .left) w) (c .before .before .before .add-resolvent .ensures)
+    let p = rw (toZ-ofZ (c .before .before .before .before .before .before .before .before .before .before .before .before .before .before .before .before .before .before .before .before .before .before .before .before .before .before .before .fits .pivot)) at (c .before .before .before .before .before .before .before .before .before .before .before .before .before .before .before .before .before .before .before .narrowed .ensures) in
+    let q = rw (kept16 {z = c .before .before .before .before .before .before .before .before .before .before .before .before .before .before .before .before .before .before .before .narrowed .result} (c .before .before .before .before .before .before .before .before .before .before .before .before .before .before .before .before .before .before .before .narrowed .ok)) at (c .before .before .before .before .before .before .before .before .before .before .before .before .before .before .before .before .before .before .negated .ensures) in
+    let a = rw (kept16 {z = c .before .before .before .before .before .before .before .before .before .before .before .before .before .before .before .before .before .before .before .narrowed .result} (c .before .before .before .before .before .before .before .before .before .before .before .before .before .before .before .before .before .before .before .narrowed .ok)) at (c .before .before .before .before .before .before .before .before .before .before .before .before .holds .ensures) in
+    let b = rw (kept16 {z = c .before .before .before .before .before .before .before .before .before .before .before .before .before .before .before .before .before .before .negated .result} (c .before .before .before .before .before .before .before .before .before .before .before .before .before .before .before .before .before .before .negated .ok)) at (c .before .before .before .before .before .before .before .before .before .before .holds2 .ensures) in
+    let w = (rw (kept16 {z = c .before .before .before .before .before .before .before .before .before .before .before .before .before .before .before .before .before .before .before .narrowed .result} (c .before .before .before .before .before .before .before .before .before .before .before .before .before .before .before .before .before .before .before .narrowed .ok), kept16 {z = c .before .before .before .before .before .before .before .before .before .before .before .before .before .before .before .before .before .before .negated .result} (c .before .before .before .before .before .before .before .before .before .before .before .before .before .before .before .before .before .before .negated .ok)) at (c .before .before .before .before .before .before .before .before .hold-resolvent .ensures .copied)) .front in
+    rw (resolve-tested _ _ (c .before .before .before .before .before .before .before .before .before .before .before .before .before .before .before .before .before .before .before .before .before .before .before .before .before .before .before .pre) _ _ _ (c .before .before .before .before .before .before .before .before .before .before .before .before .before .before .before .before .before .before .before .before .before .before .before .is-unknown .ensures) (c .before .before .before .before .before .before .before .before .before .before .before .before .before .before .before .before .before .before .before .before .before .is-unknown2 .ensures) (c .before .before .before .before .before .before .before .before .before .before .before .before .before .before .before .before .before .before .before .before .before .before .if1 .left) (c .before .before .before .before .before .before .before .before .before .before .before .before .before .before .before .before .before .before .before .before .if2 .left) (c .before .before .before .before .before .before .before .before .before .before .before .before .before .before .before .clause-at .ensures) (c .before .before .before .before .before .before .before .before .before .before .before .before .before .clause-at2 .ensures) p q a (c .before .before .before .before .before .before .before .before .before .before .before .if3 .left) b (c .before .before .before .before .before .before .before .before .before .if4 .left) w) (c .before .before .before .add-resolvent .ensures)
 
 pub resolve-spec : {M : Type 1} → statement M
 resolve-spec =
@@ -170,7 +166,6 @@ resolve-spec =
     same-length-3
     same-length-4
     returns-4
-    slice-aggregate-hold-resolvent
     hold-resolvent-requires
     array-share-prefix-whole
     slice-aggregate-add-resolvent

@@ -1,4 +1,4 @@
-// The limits of document 01 that the tables have.
+// The limits of document 01 that the code has.
 pub const LITERAL_LIMIT: usize = 8192;
 
 pub const CLAUSE_LIMIT: usize = 2048;
