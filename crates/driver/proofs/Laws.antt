@@ -1,4 +1,3 @@
 pub mod Fits
 pub mod Outcomes
-pub mod Results
 pub mod Short

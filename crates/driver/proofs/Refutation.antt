@@ -30,12 +30,12 @@ use Rattle.steps.specs.Statements.Refutation.{Lent, answers}
 use Rattle.steps.specs.declared.RunAnswer.the-variants as RunAnswer
 use Rattle.steps.specs.Statements.Refutation as Lending
 use Rattle.steps.proofs.Refutation as Lent-tables
-use Rattle.driver.specs.Buffers.{Buffers, whole, tablesIn, stateIn, written}
-use Rattle.driver.specs.Results.{field, loadResult, runResult}
+use Rattle.buffers.specs.Buffers.{Buffers, whole, tablesIn, stateIn, written}
+use Rattle.results.specs.Results.{field, loadResult, runResult}
 use Rattle.driver.specs.Calls.{After, loaded, loadShort, loadBytes, ran, runBytes}
 use Rattle.driver.specs.Statements.Refutation.{Call, runCall, otherCall, next, runResults, Refutation}
-use Rattle.driver.proofs.Laws.Outcomes.{lent-long}
-use Rattle.driver.proofs.Laws.Results.{case-is}
+use Rattle.buffers.proofs.Laws.{lent-long}
+use Rattle.results.proofs.Laws.{case-is}
 use Rattle.driver.proofs.RoundTrip.{read-back}
 
 -- ---- results

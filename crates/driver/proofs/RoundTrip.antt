@@ -20,10 +20,10 @@ use Rattle.codec.proofs.Laws.Bytes.{entries-length, bytes-length, over-length}
 use Rattle.codec.proofs.Laws.State.{state-length, state-back}
 use Rattle.codec.proofs.Laws.Turns.{literals-length}
 use Rattle.codec.proofs.Laws.RoundTrip.{literal-bytes-length, table-back, table-same, literals-back, literals-same, state-same}
-use Rattle.driver.specs.Buffers.{Buffers, whole, tablesIn, stateIn, written}
+use Rattle.buffers.specs.Buffers.{Buffers, whole, tablesIn, stateIn, written}
 use Rattle.driver.specs.Statements.RoundTrip.{SameBytes, ReadBack}
 use Rattle.driver.proofs.Laws.Fits.{literals-small, ends-small, sets-small, counts-small}
-use Rattle.driver.proofs.Laws.Outcomes.{Sizes, whole-sizes, sizes-whole}
+use Rattle.buffers.proofs.Laws.{Sizes, whole-sizes, sizes-whole}
 
 pub same-bytes : SameBytes
 unfolding written tablesIn stateIn

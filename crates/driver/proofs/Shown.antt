@@ -21,12 +21,12 @@ use Rattle.tables.proofs.Laws.Entries.{unknown-told, clause-at, range-rises, ra
 use Rattle.questions.specs.Answers.{lengthAnswer, shownStart, shownClause}
 use Rattle.questions.proofs.Laws.Outcomes.{length-refused, clause-zero, clause-past, length-unknown, length-told}
 use Rattle.codec.proofs.Laws.Turns.{literals-length}
-use Rattle.driver.specs.Buffers.{Buffers, whole, tablesIn, stateIn}
-use Rattle.driver.specs.Results.{packed, field, showResult}
+use Rattle.buffers.specs.Buffers.{Buffers, whole, tablesIn, stateIn}
+use Rattle.results.specs.Results.{packed, field, showResult}
 use Rattle.driver.specs.Calls.{showBytes}
 use Rattle.driver.specs.Statements.Shown.{ShowsTheClause}
-use Rattle.driver.proofs.Laws.Outcomes.{lent-long}
-use Rattle.driver.proofs.Laws.Results.{case-is, first-is, second-is}
+use Rattle.buffers.proofs.Laws.{lent-long}
+use Rattle.results.proofs.Laws.{case-is, first-is, second-is}
 
 -- what place and length tell
 abbrev Tells : Tables → State → ℕ → ℕ → Type 0

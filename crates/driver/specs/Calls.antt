@@ -14,8 +14,8 @@ use Rattle.dqdimacs.specs.declared.LoadAnswer.the-variants as Load
 use Rattle.steps.specs.Steps.{AfterRun, runOf}
 use Rattle.steps.specs.declared.RunAnswer.the-variants as Run
 use Rattle.codec.specs.Bytes.{over}
-use Rattle.driver.specs.Buffers.{Buffers, buffersOf, stateSize, stateWhole, whole, tablesIn, stateIn, written}
-use Rattle.driver.specs.Results.{loadResult, runResult, clauseResult, showResult, variableResult}
+use Rattle.buffers.specs.Buffers.{Buffers, buffersOf, stateSize, stateWhole, whole, tablesIn, stateIn, written}
+use Rattle.results.specs.Results.{loadResult, runResult, clauseResult, showResult, variableResult}
 
 -- the buffers behind a call, and its result
 pub record After : Type 0 where

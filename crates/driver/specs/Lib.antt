@@ -1,4 +1,2 @@
-pub mod Buffers
-pub mod Results
 pub mod Calls
 pub mod Statements

@@ -2,10 +2,8 @@
 ghost use mathlib.Core.Path.{_≡_};
 ghost use Prim.Native.Nat.{_≤_};
 ghost use lib.ListN.{length};
-ghost use Rattle.driver.specs.Buffers.{buffersOf};
+ghost use Rattle.buffers.specs.Buffers.{buffersOf};
 ghost use Rattle.driver.specs.Calls.{After, loadBytes, loadWhole};
-use super::buffers;
-use super::result;
 use codec::state as state_codec;
 use dqbf::limits::CLAUSE_LIMIT;
 use dqbf::limits::LITERAL_LIMIT;
@@ -42,7 +40,7 @@ fn load_whole(
     let after = loaded.state;
     state_codec::write_state(state, after);
     let answer = loaded.answer;
-    result::of_load(answer)
+    results::of_load(answer)
 }
 
 // Loads the text of a formula into the driver's buffers.
@@ -64,7 +62,7 @@ pub extern "C" fn kefthrun_load(
 {
     if !buffers::is_whole(literals, ends, sets, kinds, state) {
         buffers::zero_state(state);
-        return result::pack(1, 0, 1);
+        return results::pack(1, 0, 1);
     }
     load_whole(text, literals, ends, sets, kinds, state)
 }

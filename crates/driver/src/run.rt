@@ -2,10 +2,8 @@
 ghost use mathlib.Core.Path.{_≡_};
 ghost use Prim.Native.Nat.{_≤_};
 ghost use lib.ListN.{length};
-ghost use Rattle.driver.specs.Buffers.{buffersOf};
+ghost use Rattle.buffers.specs.Buffers.{buffersOf};
 ghost use Rattle.driver.specs.Calls.{After, runBytes, runWhole};
-use super::buffers;
-use super::result;
 use codec::state as state_codec;
 use dqbf::limits::CLAUSE_LIMIT;
 use dqbf::limits::LITERAL_LIMIT;
@@ -53,7 +51,7 @@ fn run_whole(
     let after = ran.state;
     state_codec::write_state(state, after);
     let answer = ran.answer;
-    result::of_run(answer)
+    results::of_run(answer)
 }
 
 // Runs a list of records over the tables and the state in the driver's buffers.
@@ -74,7 +72,7 @@ pub extern "C" fn kefthrun_run(
         (runBytes (buffersOf (now (literals .entry)) (now (ends .entry)) (now (sets .entry)) (now (kinds .entry)) (now (state .entry))) (now (records .entry))) ⌝ }
 {
     if !buffers::is_whole(literals, ends, sets, kinds, state) {
-        return result::pack(2, 0, 1);
+        return results::pack(2, 0, 1);
     }
     run_whole(records, literals, ends, sets, kinds, state)
 }

@@ -1,9 +1,7 @@
 // The exported show: an exported function returns no reference, so that it tells place and length in the caller's own literals.
 ghost use mathlib.Core.Path.{_≡_};
-ghost use Rattle.driver.specs.Buffers.{buffersOf};
+ghost use Rattle.buffers.specs.Buffers.{buffersOf};
 ghost use Rattle.driver.specs.Calls.{showBytes};
-use super::buffers;
-use super::result;
 use codec::state as state_codec;
 use dqbf::limits::CLAUSE_LIMIT;
 use dqbf::limits::LITERAL_LIMIT;
@@ -23,7 +21,7 @@ pub extern "C" fn kefthrun_show(
     ensures { λ r. ⌜ r ≡ showBytes (buffersOf (now (literals .entry)) (now (ends .entry)) (now (sets .entry)) (now (kinds .entry)) (now (state .entry))) clause ⌝ }
 {
     if !buffers::is_whole(literals, ends, sets, kinds, state) {
-        return result::pack(1, 1, 0);
+        return results::pack(1, 1, 0);
     }
     let mut literal_table = [0i16; LITERAL_LIMIT];
     let mut end_table = [0u16; CLAUSE_LIMIT];
@@ -47,5 +45,5 @@ pub extern "C" fn kefthrun_show(
         number,
     );
     let start = buffers::clause_start(&end_table, clause);
-    result::of_show(start, answer)
+    results::of_show(start, answer)
 }

@@ -1,7 +1,7 @@
 // Checks the steps in steps.bin against the formula in formula.dq, both in its folder, and prints the line (document 01, "The line printed").
 use libc::STDOUT_FILENO;
+use lines::line::Written;
 use verdict::judge;
-use verdict::line::Written;
 
 // The line of a formula and a list of steps, printed.
 fn print_line(text: &[u8], records: &[u8]) {

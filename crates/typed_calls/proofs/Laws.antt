@@ -12,7 +12,7 @@ use Rattle.steps.specs.Steps.{AfterRun, runOf}
 use Rattle.steps.specs.declared.Ran.{Ran}
 use Rattle.codec.specs.Bytes.{over}
 use Rattle.codec.specs.State.{stateIn, stateBytes}
-use Rattle.driver.specs.Results.{packed, loadResult, runResult}
+use Rattle.results.specs.Results.{packed, loadResult, runResult}
 use Rattle.typed_calls.specs.Calls.{after, loaded, typedLoad, ran, typedRun}
 
 -- a state of too few bytes

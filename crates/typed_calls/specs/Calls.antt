@@ -12,8 +12,8 @@ use Rattle.steps.specs.Steps.{AfterRun, runOf}
 use Rattle.steps.specs.declared.RunAnswer.the-variants as Run
 use Rattle.codec.specs.Bytes.{over}
 use Rattle.codec.specs.State.{stateIn, stateBytes}
-use Rattle.driver.specs.Buffers.{stateSize}
-use Rattle.driver.specs.Results.{loadResult, runResult}
+use Rattle.buffers.specs.Buffers.{stateSize}
+use Rattle.results.specs.Results.{loadResult, runResult}
 
 -- the tables, the state and the result behind a call
 pub record After : Type 0 where

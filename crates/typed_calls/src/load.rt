@@ -3,7 +3,6 @@ ghost use mathlib.Core.Path.{_≡_};
 ghost use Rattle.tables.specs.Tables.{tablesOf};
 ghost use Rattle.typed_calls.specs.Calls.{after, typedLoad};
 use codec::state as state_codec;
-use driver::result;
 
 // Loads the text of a formula.
 #[no_mangle]
@@ -19,11 +18,11 @@ pub extern "C" fn typed_load(
         ≡ typedLoad (tablesOf (now (literals .entry)) (now (ends .entry)) (now (sets .entry)) (now (kinds .entry))) (now (state .entry)) (now (text .entry)) ⌝ }
 {
     if state.len() < 16 {
-        return result::pack(1, 0, 1);
+        return results::pack(1, 0, 1);
     }
     let loaded = dqdimacs::load(text, literals, ends, sets, kinds);
     let after = loaded.state;
     state_codec::write_state(state, after);
     let answer = loaded.answer;
-    result::of_load(answer)
+    results::of_load(answer)
 }

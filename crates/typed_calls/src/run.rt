@@ -3,7 +3,6 @@ ghost use mathlib.Core.Path.{_≡_};
 ghost use Rattle.tables.specs.Tables.{tablesOf};
 ghost use Rattle.typed_calls.specs.Calls.{after, typedRun};
 use codec::state as state_codec;
-use driver::result;
 use steps::run;
 
 // Runs a list of records.
@@ -20,12 +19,12 @@ pub extern "C" fn typed_run(
         ≡ typedRun (tablesOf (now (literals .entry)) (now (ends .entry)) (now (sets .entry)) (now (kinds .entry))) (now (state .entry)) (now (records .entry)) ⌝ }
 {
     if state.len() < 16 {
-        return result::pack(2, 0, 1);
+        return results::pack(2, 0, 1);
     }
     let before = state_codec::read_state(state);
     let ran = run::run(records, literals, ends, sets, kinds, before);
     let after = ran.state;
     state_codec::write_state(state, after);
     let answer = ran.answer;
-    result::of_run(answer)
+    results::of_run(answer)
 }

@@ -16,8 +16,8 @@ use Rattle.tables.specs.Unusable.{unusable, unlessRefused}
 use Rattle.tables.specs.declared.State.{State}
 use Rattle.questions.specs.Answers.{lengthAnswer, variableAnswer, shownClause}
 use Rattle.codec.specs.State.{stateIn}
-use Rattle.driver.specs.Results.{packed, clauseResult, showResult, variableResult}
-use Rattle.driver.proofs.Laws.Outcomes.{show-start}
+use Rattle.results.specs.Results.{packed, clauseResult, showResult, variableResult}
+use Rattle.results.proofs.Laws.{show-start}
 use Rattle.typed_questions.specs.Calls.{typedShow, typedClause, typedVariable}
 
 -- a stretch with a literal in it is an answer

@@ -10,8 +10,8 @@ use Rattle.dqbf.specs.Questions.{noClause, noVariable}
 use Rattle.tables.specs.Tables.{Tables}
 use Rattle.questions.specs.Answers.{lengthAnswer, variableAnswer, shownStart}
 use Rattle.codec.specs.State.{stateIn}
-use Rattle.driver.specs.Buffers.{stateSize}
-use Rattle.driver.specs.Results.{clauseResult, showResult, variableResult}
+use Rattle.buffers.specs.Buffers.{stateSize}
+use Rattle.results.specs.Results.{clauseResult, showResult, variableResult}
 
 unfoldable pub typedShow : Tables → List ℕ → ℕ → ℕ
 typedShow t s c =

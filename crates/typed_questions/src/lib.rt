@@ -3,8 +3,6 @@ ghost use mathlib.Core.Path.{_≡_};
 ghost use Rattle.tables.specs.Tables.{tablesOf};
 ghost use Rattle.typed_questions.specs.Calls.{typedShow, typedClause, typedVariable};
 use codec::state as state_codec;
-use driver::buffers;
-use driver::result;
 use tables::ClauseNumber;
 use tables::VariableNumber;
 
@@ -21,7 +19,7 @@ pub extern "C" fn typed_show(
     ensures { λ r. ⌜ r ≡ typedShow (tablesOf (now (literals .entry)) (now (ends .entry)) (now (sets .entry)) (now (kinds .entry))) (now (state .entry)) clause ⌝ }
 {
     if state.len() < 16 {
-        return result::pack(1, 1, 0);
+        return results::pack(1, 1, 0);
     }
     let held = state_codec::read_state(state);
     let number = ClauseNumber(clause);
@@ -30,9 +28,9 @@ pub extern "C" fn typed_show(
     let width = shown.len();
     if width == 0 {
         let answer = questions::clause_length(literals, ends, sets, kinds, held, number);
-        return result::of_show(start, answer);
+        return results::of_show(start, answer);
     }
-    result::pack(0, start as u32, (width % 65536) as u32)
+    results::pack(0, start as u32, (width % 65536) as u32)
 }
 
 // The length of a clause.
@@ -48,12 +46,12 @@ pub extern "C" fn typed_clause(
     ensures { λ r. ⌜ r ≡ typedClause (tablesOf (now (literals .entry)) (now (ends .entry)) (now (sets .entry)) (now (kinds .entry))) (now (state .entry)) clause ⌝ }
 {
     if state.len() < 16 {
-        return result::pack(1, 1, 0);
+        return results::pack(1, 1, 0);
     }
     let held = state_codec::read_state(state);
     let number = ClauseNumber(clause);
     let answer = questions::clause_length(literals, ends, sets, kinds, held, number);
-    result::of_clause(answer)
+    results::of_clause(answer)
 }
 
 // Kind and number of universals of a variable.
@@ -69,10 +67,10 @@ pub extern "C" fn typed_variable(
     ensures { λ r. ⌜ r ≡ typedVariable (tablesOf (now (literals .entry)) (now (ends .entry)) (now (sets .entry)) (now (kinds .entry))) (now (state .entry)) variable ⌝ }
 {
     if state.len() < 16 {
-        return result::pack(1, 1, 0);
+        return results::pack(1, 1, 0);
     }
     let held = state_codec::read_state(state);
     let number = VariableNumber(variable);
     let answer = questions::variable(literals, ends, sets, kinds, held, number);
-    result::of_variable(answer)
+    results::of_variable(answer)
 }

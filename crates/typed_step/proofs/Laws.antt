@@ -10,7 +10,7 @@ use Rattle.additions.specs.declared.Stepped.{Stepped}
 use Rattle.steps.specs.Steps.{AfterStep, stepOf}
 use Rattle.codec.specs.Bytes.{over}
 use Rattle.codec.specs.State.{stateIn, stateBytes}
-use Rattle.driver.specs.Results.{packed}
+use Rattle.results.specs.Results.{packed}
 use Rattle.typed_calls.specs.Calls.{after}
 use Rattle.typed_step.specs.Calls.{stepResult, stepped, typedStep}
 

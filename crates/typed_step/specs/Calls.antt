@@ -11,8 +11,8 @@ use Rattle.additions.specs.declared.StepAnswer.the-variants as Step
 use Rattle.steps.specs.Steps.{AfterStep, stepOf}
 use Rattle.codec.specs.Bytes.{over}
 use Rattle.codec.specs.State.{stateIn, stateBytes}
-use Rattle.driver.specs.Buffers.{stateSize}
-use Rattle.driver.specs.Results.{packed}
+use Rattle.buffers.specs.Buffers.{stateSize}
+use Rattle.results.specs.Results.{packed}
 use Rattle.typed_calls.specs.Calls.{After, after}
 
 -- 0: accepted; 1: refused with its number

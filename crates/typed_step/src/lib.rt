@@ -6,15 +6,14 @@ ghost use Rattle.typed_calls.specs.Calls.{after};
 ghost use Rattle.typed_step.specs.Calls.{stepResult, typedStep};
 use additions::StepAnswer;
 use codec::state as state_codec;
-use driver::result;
 use steps::step;
 
 fn of_step(answer: StepAnswer) -> u64
     ensures { λ r. ⌜ r ≡ stepResult answer ⌝ }
 {
     match answer {
-        StepAnswer::Accepted => result::pack(0, 0, 0),
-        StepAnswer::Refused(number) => result::pack(1, number, 0),
+        StepAnswer::Accepted => results::pack(0, 0, 0),
+        StepAnswer::Refused(number) => results::pack(1, number, 0),
     }
 }
 
@@ -32,7 +31,7 @@ pub extern "C" fn typed_step(
         ≡ typedStep (tablesOf (now (literals .entry)) (now (ends .entry)) (now (sets .entry)) (now (kinds .entry))) (now (state .entry)) (now (bytes .entry)) ⌝ }
 {
     if state.len() < 16 {
-        return result::pack(1, 1, 0);
+        return results::pack(1, 1, 0);
     }
     let before = state_codec::read_state(state);
     let stepped = step::step(bytes, literals, ends, sets, kinds, before);

@@ -3,8 +3,8 @@
 ghost use Prim.Native.Nat.{_≤_, _<_};
 ghost use lib.ListN.{length};
 use libc::STDOUT_FILENO;
+use lines::line::Written;
 use verdict::judge;
-use verdict::line::Written;
 
 fn wide(byte: u8) -> usize
     ensures { λ r. ⌜ r < 256 ⌝ }

@@ -13,8 +13,8 @@ use Rattle.tables.specs.Spread.{spread, blank}
 use Rattle.tables.specs.WellFormed.{long}
 use Rattle.steps.specs.declared.RunAnswer.{RunAnswer}
 use Rattle.steps.specs.declared.RunAnswer.the-variants as RunAnswer
-use Rattle.verdict.specs.declared.line.Verdict.{Verdict}
-use Rattle.verdict.specs.declared.line.Verdict.the-variants.{Refuted, Open, Bad}
+use Rattle.lines.specs.declared.line.Verdict.{Verdict}
+use Rattle.lines.specs.declared.line.Verdict.the-variants.{Refuted, Open, Bad}
 
 unfoldable pub toldBy : RunAnswer → Verdict
 toldBy (RunAnswer.Refuted s k) = Refuted (s .0) (k .0)

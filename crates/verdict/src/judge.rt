@@ -1,12 +1,12 @@
 // A formula's text and a list of steps to the line.
-use crate::line;
-use crate::line::Verdict;
-use crate::line::Written;
 use dqdimacs::LoadAnswer;
+use lines::line;
+use lines::line::Verdict;
+use lines::line::Written;
 use steps::RunAnswer;
 ghost use mathlib.Core.Path.{_≡_};
 ghost use Rattle.tables.specs.Tables.{tablesOf};
-ghost use Rattle.verdict.specs.Lines.{lineOf, written, withLine};
+ghost use Rattle.lines.specs.Lines.{lineOf, written, withLine};
 ghost use Rattle.verdict.specs.Judging.{toldBy, judgedLine, judgedTables};
 
 // The line's case for an answer of a run.

@@ -11,8 +11,8 @@ use Rattle.dqdimacs.specs.declared.LoadAnswer.the-variants as Load
 use Rattle.steps.specs.Steps.{runOf}
 use Rattle.steps.specs.declared.RunAnswer.{RunAnswer}
 use Rattle.steps.specs.declared.RunAnswer.the-variants as Run
-use Rattle.driver.specs.Buffers.{Buffers, whole, tablesIn, stateIn}
-use Rattle.driver.specs.Results.{field}
+use Rattle.buffers.specs.Buffers.{Buffers, whole, tablesIn, stateIn}
+use Rattle.results.specs.Results.{field}
 use Rattle.driver.specs.Calls.{loadBytes, runBytes, clauseBytes, variableBytes}
 
 unfoldable pub fields : ℕ → List ℕ

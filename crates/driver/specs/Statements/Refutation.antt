@@ -10,8 +10,8 @@ use Rattle.dqbf.specs.Literal.{_∈_}
 use Rattle.dqbf.specs.Formula.{Formula}
 use Rattle.dqbf.specs.Meaning.{Refuted}
 use Rattle.dqbf.specs.Reading.{load, accepted}
-use Rattle.driver.specs.Buffers.{Buffers}
-use Rattle.driver.specs.Results.{field}
+use Rattle.buffers.specs.Buffers.{Buffers}
+use Rattle.results.specs.Results.{field}
 use Rattle.driver.specs.Calls.{loadBytes, runBytes}
 
 -- a run with any bytes; a call that writes nothing

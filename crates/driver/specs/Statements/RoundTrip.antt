@@ -8,7 +8,7 @@ use Rattle.dqbf.specs.Limits.{tables}
 use Rattle.dqbf.specs.Model.{Model}
 use Rattle.dqbf.specs.Valid.{Valid}
 use Rattle.tables.specs.Spread.{spread, stateOf}
-use Rattle.driver.specs.Buffers.{Buffers, whole, tablesIn, stateIn, written}
+use Rattle.buffers.specs.Buffers.{Buffers, whole, tablesIn, stateIn, written}
 
 abbrev pub Bytes : List ℕ → Type 0
 Bytes l = (i : ℕ) → getD l i 0 < 256

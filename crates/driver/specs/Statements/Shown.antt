@@ -5,8 +5,8 @@ use Prim.Native.Nat.{ℕ, _+_, _≤_}
 use lib.ListN.{length}
 use Rattle.tables.specs.Tables.{stretch}
 use Rattle.questions.specs.Answers.{shownClause}
-use Rattle.driver.specs.Buffers.{Buffers, tablesIn, stateIn}
-use Rattle.driver.specs.Results.{field}
+use Rattle.buffers.specs.Buffers.{Buffers, tablesIn, stateIn}
+use Rattle.results.specs.Results.{field}
 use Rattle.driver.specs.Calls.{showBytes}
 
 -- If the first field is 0, the other two are place and length of the clause in the literals.

@@ -1,7 +1,7 @@
 use borrow.Author.Needs.{needs}
 use mathlib.Core.Path.{sym}
 use lib.Seq.{length-take-le}
-use Rattle.verdict.proofs.Laws.Lines.{written-inside}
+use Rattle.lines.proofs.Laws.Lines.{written-inside}
 use Rattle.kefthrun.proofs.print_line.Statement.{statement}
 use Rattle.kefthrun.proofs.print_line.Tie as tie
 use Rattle.kefthrun.proofs.print_line.Reads as reads

@@ -2,7 +2,7 @@
 use borrow.Author.Needs.{needs}
 use mathlib.Core.Path.{sym}
 use lib.Seq.{length-take-le}
-use Rattle.verdict.proofs.Laws.Lines.{written-inside}
+use Rattle.lines.proofs.Laws.Lines.{written-inside}
 use Rattle.vectors.proofs.print_case.Statement.{statement}
 use Rattle.vectors.proofs.print_case.Tie as tie
 use Rattle.vectors.proofs.print_case.Reads as reads

@@ -25,11 +25,11 @@ use Rattle.dqdimacs.specs.declared.LoadAnswer.{LoadAnswer}
 use Rattle.dqdimacs.specs.declared.LoadAnswer.the-variants as LoadAnswer
 use Rattle.steps.specs.Steps.{runAnswer, AfterRun, ranOn, runOf}
 use Rattle.steps.specs.declared.RunAnswer.{RunAnswer}
-use Rattle.verdict.specs.Lines.{lineOf, written, withLine}
+use Rattle.lines.specs.Lines.{lineOf, written, withLine}
 use Rattle.verdict.specs.Judging.{toldBy, judgedLine, judgedModel, judgedTables}
-use Rattle.verdict.specs.declared.line.Verdict.{Verdict}
-use Rattle.verdict.specs.declared.line.Verdict.the-variants as Verdict
-use Rattle.verdict.specs.declared.line.Written.{Written}
+use Rattle.lines.specs.declared.line.Verdict.{Verdict}
+use Rattle.lines.specs.declared.line.Verdict.the-variants as Verdict
+use Rattle.lines.specs.declared.line.Written.{Written}
 use Rattle.verdict.proofs.Laws.Values.{badValues, run-values}
 
 -- ---- a verdict of the calculus, told by the code's enums

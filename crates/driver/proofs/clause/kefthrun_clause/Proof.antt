@@ -1,6 +1,6 @@
 -- `driver::clause::kefthrun_clause` meets its contract.
 use borrow.Author.Needs.{needs}
-use Rattle.driver.specs.Buffers.{buffersOf}
+use Rattle.buffers.specs.Buffers.{buffersOf}
 use Rattle.driver.proofs.Laws.Outcomes.{sizes, clause-short, clause-told}
 use Rattle.driver.proofs.clause.kefthrun_clause.Statement.{statement}
 use Rattle.driver.proofs.clause.kefthrun_clause.Tie as tie

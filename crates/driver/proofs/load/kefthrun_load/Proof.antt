@@ -1,6 +1,6 @@
 -- `driver::load::kefthrun_load` meets its contract.
 use borrow.Author.Needs.{needs}
-use Rattle.driver.specs.Buffers.{buffersOf}
+use Rattle.buffers.specs.Buffers.{buffersOf}
 use Rattle.driver.proofs.Laws.Outcomes.{load-short, load-on, sizes}
 use Rattle.driver.proofs.load.kefthrun_load.Statement.{statement}
 use Rattle.driver.proofs.load.kefthrun_load.Tie as tie

@@ -1,6 +1,6 @@
 -- `driver::run::kefthrun_run` meets its contract.
 use borrow.Author.Needs.{needs}
-use Rattle.driver.specs.Buffers.{buffersOf}
+use Rattle.buffers.specs.Buffers.{buffersOf}
 use Rattle.driver.proofs.Laws.Outcomes.{run-short, run-on, sizes}
 use Rattle.driver.proofs.run.kefthrun_run.Statement.{statement}
 use Rattle.driver.proofs.run.kefthrun_run.Tie as tie

@@ -1,6 +1,6 @@
 -- `driver::show::kefthrun_show` meets its contract.
 use borrow.Author.Needs.{needs}
-use Rattle.driver.specs.Buffers.{buffersOf}
+use Rattle.buffers.specs.Buffers.{buffersOf}
 use Rattle.driver.proofs.Laws.Outcomes.{sizes, show-short, show-told}
 use Rattle.driver.proofs.show.kefthrun_show.Statement.{statement}
 use Rattle.driver.proofs.show.kefthrun_show.Tie as tie

@@ -1,6 +1,6 @@
 -- `driver::variable::kefthrun_variable` meets its contract.
 use borrow.Author.Needs.{needs}
-use Rattle.driver.specs.Buffers.{buffersOf}
+use Rattle.buffers.specs.Buffers.{buffersOf}
 use Rattle.driver.proofs.Laws.Outcomes.{sizes, variable-short, variable-told}
 use Rattle.driver.proofs.variable.kefthrun_variable.Statement.{statement}
 use Rattle.driver.proofs.variable.kefthrun_variable.Tie as tie

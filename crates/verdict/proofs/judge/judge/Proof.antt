@@ -6,7 +6,7 @@ use Rattle.verdict.proofs.judge.judge.Tie as tie
 use Rattle.verdict.proofs.judge.judge.Reads as reads
 use Rattle.verdict.proofs.judge.judge.Lts as lts
 use Rattle.verdict.proofs.judge.load_and_run.Reads as load-and-run-reads
-use Rattle.verdict.proofs.line.write_line.Reads as write-line-reads
+use Rattle.lines.proofs.line.write_line.Reads as write-line-reads
 
 -- src/judge.rt:62:9
 load-and-run-requires : tie.Need-load-and-run-requires
