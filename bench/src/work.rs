@@ -67,16 +67,20 @@ fn wide_clauses(places: impl Fn(usize) -> Vec<usize>) -> String {
     text
 }
 
-/// 64 universals and sets of up to 64 members, no clause.
+/// The most bytes of a text.
+const TEXT_LIMIT: usize = 32_768;
+
+/// 64 universals and sets of 64 members, no clause; a comment in front fills the text up to its limit.
 fn large_sets() -> String {
     let mut text = format!("p cnf 512 0\na {} 0\n", joined(1..=64));
     for existential in 65..=512 {
         let line = format!("d {existential} {} 0\n", joined(1..=64));
-        if text.len() + line.len() <= 32_768 {
+        if text.len() + line.len() + "c\n".len() <= TEXT_LIMIT {
             text += &line;
         }
     }
-    text
+    let free = TEXT_LIMIT - text.len() - "c\n".len();
+    format!("c{}\n{text}", " ".repeat(free))
 }
 
 pub fn loads() -> Vec<Work> {

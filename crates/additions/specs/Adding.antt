@@ -1,22 +1,28 @@
 -- What the last tests of a step leave: width and clash of a resolvent, and room (document 01, "Numbers of refusal": 24, 23, 25).
--- Offers `Holding` (the tables are long enough and well formed), `One`, `Two`, `fitted`, `tested`, `After` (what a step leaves).
+-- Offers `Holding` (the tables are long enough and well formed), `One`, `Two`, `Splits` (a clause split in two), `fitted`, `tested`, `refusalNumber`, `WrittenOrErased`, `After` (what a step leaves).
 use mathlib.Core.Path.{_≡_}
-use mathlib.Core.Bool.{cond, true}
-use mathlib.Core.List.{[], _∷_}
-use lib.Dec.{ltb}
+use mathlib.Core.Bool.{Bool, cond, true}
+use mathlib.Core.List.{List, [], _∷_}
+use Prim.Native.Nat.{ℕ, _≤_}
+use lib.Dec.{eqb, ltb}
+use lib.IntN.{ℤ}
 use lib.ListN.{length}
 use Rattle.dqbf.specs.Limits.{tables, widthLimit}
 use Rattle.dqbf.specs.Refusal.{refusal}
-use Rattle.dqbf.specs.Literal.{Clause, clashes}
+use Rattle.dqbf.specs.Literal.{Clause, clashes, pick}
 use Rattle.dqbf.specs.Set.{Set}
 use Rattle.dqbf.specs.Model.{Model}
 use Rattle.dqbf.specs.Rules.{Addition, noRoom}
 use Rattle.dqbf.specs.Run.{Examined, accepts, refuses}
 use Rattle.tables.specs.Tables.{Tables, modelIn}
+use Rattle.tables.specs.Adding.{full}
 use Rattle.tables.specs.WellFormed.{long, wellFormed}
 use Rattle.tables.specs.declared.State.{State}
 use Rattle.additions.specs.Examined.{AfterStep, examined}
 use Rattle.additions.specs.declared.Stepped.{Stepped}
+use Rattle.additions.specs.declared.adding.Split.{Split}
+use Rattle.additions.specs.declared.adding.Resolvent.{Resolvent}
+use Rattle.joins.specs.Joining.{overlaid}
 
 -- 1 and 2 are ruled out
 pub record Holding (t : Tables) (s : State) : Type 0 where
@@ -33,6 +39,13 @@ One C = record { clauses = C ∷ []; forks = [] }
 abbrev pub Two : Clause → Clause → Set → Addition
 Two C D w = record { clauses = C ∷ D ∷ []; forks = w ∷ [] }
 
+-- the masks of r pick so many literals of C as r says, at most 32 each
+pub record Splits (C : Clause) (r : Split) : Type 0 where
+  pub first : r .first ≡ length (pick (r .left) C)
+  pub second : r .second ≡ length (pick (r .right) C)
+  pub first-narrow : r .first ≤ widthLimit
+  pub second-narrow : r .second ≤ widthLimit
+
 -- 25
 unfoldable pub fitted : Model → Addition → Examined
 fitted m a = cond (noRoom tables m a) (refuses (refusal 25)) (accepts a)
@@ -40,3 +53,13 @@ fitted m a = cond (noRoom tables m a) (refuses (refusal 25)) (accepts a)
 -- 24 and 23 of a resolvent, then 25
 unfoldable pub tested : Model → Clause → Examined
 tested m C = cond (ltb widthLimit (length C)) (refuses (refusal 24)) (cond (clashes C) (refuses (refusal 23)) (fitted m (One C)))
+
+-- the same tests by width and clash, as the code makes them: the number of refusal, 0 for none
+unfoldable pub refusalNumber : State → ℕ → Bool → ℕ
+refusalNumber s width clash = cond (ltb widthLimit width) 24 (cond clash 23 (cond (full s 1 width 0) 25 0))
+
+-- Of the tail xs, writing the resolvent C left zs and answered r: C stands over it, or nothing changed.
+pub record WrittenOrErased (s : State) (C : Clause) (xs zs : List ℤ) (r : Resolvent) : Type 0 where
+  pub count : r .count ≡ length C
+  pub number : r .number ≡ refusalNumber s (length C) (clashes C)
+  pub left : zs ≡ cond (eqb (r .number) 0) (overlaid C xs) xs

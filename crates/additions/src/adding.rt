@@ -2,19 +2,22 @@
 use crate::StepAnswer;
 use crate::Stepped;
 use crate::refusal;
-use clauses::tests;
 use clauses::writing;
+use dqbf::limits::LITERAL_LIMIT;
 use dqbf::limits::WIDTH_LIMIT;
+use joins::Joined;
 use tables::State;
 use tables::adding;
 ghost use mathlib.Core.Path.{_≡_};
 ghost use Rattle.tables.specs.Tables.{tablesOf, modelIn};
 ghost use mathlib.Core.List.{[], _∷_, _++_};
 ghost use lib.IntN.{pos, negsuc};
-ghost use Prim.Native.Nat.{suc, _≤_};
-ghost use lib.ListN.{length};
+ghost use Prim.Native.Nat.{suc, _<_, _≤_};
+ghost use lib.ListN.{length, replicate};
 ghost use Rattle.dqbf.specs.Limits.{widthLimit};
-ghost use Rattle.additions.specs.Adding.{Holding, After, One, Two, fitted, tested};
+ghost use Rattle.dqbf.specs.Literal.{join, pick};
+ghost use Rattle.clauses.specs.Places.{butAt};
+ghost use Rattle.additions.specs.Adding.{Holding, After, One, Two, fitted, tested, Splits, refusalNumber, WrittenOrErased};
 ghost use Rattle.additions.specs.declared.StepAnswer.the-variants.{Refused};
 
 // Nothing changes.
@@ -25,37 +28,47 @@ pub fn refused(state: State, number: u32) -> Stepped
     Stepped { state, answer }
 }
 
-// A clause as a new clause.
-pub fn add_one(
-    clause: &[i16],
-    literals: &mut [i16],
-    ends: &mut [u16],
-    sets: &[u64],
-    kinds: &[u8],
-    state: State,
-) -> Stepped
-    requires { ⌜ Holding (tablesOf (now literals) (now ends) (now sets) (now kinds)) state × (length (now clause) ≤ widthLimit) ⌝ }
-    ensures { λ r. ⌜ After (tablesOf (now (literals .entry)) (now (ends .entry)) (now (sets .entry)) (now (kinds .entry))) state
-        (fitted (modelIn (tablesOf (now (literals .entry)) (now (ends .entry)) (now (sets .entry)) (now (kinds .entry))) state) (One (now (clause .entry))))
-        (tablesOf (now (literals .exit)) (now (ends .exit)) (now (sets .entry)) (now (kinds .entry))) r ⌝ }
+// The number that refuses a joined clause as a resolvent: its width, complementary literals, room; 0 where none does.
+fn number_of(joined: Joined, state: State) -> u32
+    ensures { λ r. ⌜ r ≡ refusalNumber state (joined .count) (joined .clashes) ⌝ }
 {
-    let width = clause.len();
-    if adding::is_full(state, 1, width as u32, 0) {
-        return refused(state, refusal::NO_ROOM);
+    if joined.count > WIDTH_LIMIT {
+        return refusal::TOO_WIDE;
     }
-    let place = state.literals as usize;
-    let count = writing::write_clause(&mut literals[place..], clause);
-    let next = adding::add_clause(ends, state, count as u16);
-    let answer = StepAnswer::Accepted;
-    Stepped {
-        state: next,
-        answer,
+    if joined.clashes {
+        return refusal::COMPLEMENTARY;
     }
+    if adding::is_full(state, 1, joined.count as u32, 0) {
+        return refusal::NO_ROOM;
+    }
+    0
 }
 
-// A resolvent as a new clause: its width, complementary literals, and room.
+// A resolvent that was written: how many literals it has, and the number that refuses it or 0.
+pub struct Resolvent {
+    pub count: usize,
+    pub number: u32,
+}
+
+// Writes a resolvent, the join of two clauses, over the tail, where zeros stand; one that is refused is erased again.
+fn write_resolvent(tail: &mut [i16], first: &[i16], second: &[i16], state: State) -> Resolvent
+    requires { ⌜ now tail ≡ replicate (length (now tail)) (pos 0) ⌝ }
+    ensures { λ r. ⌜ WrittenOrErased state (join (now (first .entry)) (now (second .entry))) (now (tail .entry)) (now (tail .exit)) r ⌝ }
+{
+    let joined = joins::write_join(tail, first, second);
+    let count = joined.count;
+    let number = number_of(joined, state);
+    if number != 0 {
+        joins::erase(tail, count);
+        return Resolvent { count, number };
+    }
+    Resolvent { count, number }
+}
+
+// A resolvent as a new clause, unless it is refused.
 pub fn add_resolvent(
-    clause: &[i16],
+    first: &[i16],
+    second: &[i16],
     literals: &mut [i16],
     ends: &mut [u16],
     sets: &[u64],
@@ -64,45 +77,100 @@ pub fn add_resolvent(
 ) -> Stepped
     requires { ⌜ Holding (tablesOf (now literals) (now ends) (now sets) (now kinds)) state ⌝ }
     ensures { λ r. ⌜ After (tablesOf (now (literals .entry)) (now (ends .entry)) (now (sets .entry)) (now (kinds .entry))) state
-        (tested (modelIn (tablesOf (now (literals .entry)) (now (ends .entry)) (now (sets .entry)) (now (kinds .entry))) state) (now (clause .entry)))
+        (tested (modelIn (tablesOf (now (literals .entry)) (now (ends .entry)) (now (sets .entry)) (now (kinds .entry))) state) (join (now (first .entry)) (now (second .entry))))
         (tablesOf (now (literals .exit)) (now (ends .exit)) (now (sets .entry)) (now (kinds .entry))) r ⌝ }
 {
-    if clause.len() > WIDTH_LIMIT {
-        return refused(state, refusal::TOO_WIDE);
+    let last = state.literals as usize;
+    let resolvent = write_resolvent(&mut literals[last..LITERAL_LIMIT], first, second, state);
+    if resolvent.number != 0 {
+        return refused(state, resolvent.number);
     }
-    if tests::clashes(clause) {
-        return refused(state, refusal::COMPLEMENTARY);
+    let next = adding::add_clause(ends, state, resolvent.count as u16);
+    let answer = StepAnswer::Accepted;
+    Stepped {
+        state: next,
+        answer,
     }
-    add_one(clause, literals, ends, sets, kinds, state)
 }
 
-// The two parts of a fork as new clauses, with the new variable, whose set is given.
+// A clause without the literal at a place as a new clause.
+pub fn add_reduced(
+    clause: &[i16],
+    place: usize,
+    literals: &mut [i16],
+    ends: &mut [u16],
+    sets: &[u64],
+    kinds: &[u8],
+    state: State,
+) -> Stepped
+    requires { ⌜ Holding (tablesOf (now literals) (now ends) (now sets) (now kinds)) state × (place < length (now clause)) × (length (now clause) ≤ widthLimit) ⌝ }
+    ensures { λ r. ⌜ After (tablesOf (now (literals .entry)) (now (ends .entry)) (now (sets .entry)) (now (kinds .entry))) state
+        (fitted (modelIn (tablesOf (now (literals .entry)) (now (ends .entry)) (now (sets .entry)) (now (kinds .entry))) state) (One (butAt place (now (clause .entry)))))
+        (tablesOf (now (literals .exit)) (now (ends .exit)) (now (sets .entry)) (now (kinds .entry))) r ⌝ }
+{
+    let width = clause.len() - 1;
+    if adding::is_full(state, 1, width as u32, 0) {
+        return refused(state, refusal::NO_ROOM);
+    }
+    let last = state.literals as usize;
+    let count = writing::write_without(&mut literals[last..], clause, place);
+    let next = adding::add_clause(ends, state, count as u16);
+    let answer = StepAnswer::Accepted;
+    Stepped {
+        state: next,
+        answer,
+    }
+}
+
+// A clause split in two by masks: the masks, how many literals each picks, and the set of the new variable.
+pub struct Split {
+    pub left: u32,
+    pub right: u32,
+    pub first: usize,
+    pub second: usize,
+    pub set: u64,
+}
+
+// The two parts of a fork as new clauses, with the new variable.
 pub fn add_parts(
-    left: &[i16],
-    right: &[i16],
-    set: u64,
+    clause: &[i16],
+    split: Split,
     literals: &mut [i16],
     ends: &mut [u16],
     sets: &mut [u64],
     kinds: &mut [u8],
     state: State,
 ) -> Stepped
-    requires { ⌜ Holding (tablesOf (now literals) (now ends) (now sets) (now kinds)) state × (length (now left) ≤ widthLimit) × (length (now right) ≤ widthLimit) ⌝ }
+    requires { ⌜ Holding (tablesOf (now literals) (now ends) (now sets) (now kinds)) state × Splits (now clause) split ⌝ }
     ensures { λ r. ⌜ After (tablesOf (now (literals .entry)) (now (ends .entry)) (now (sets .entry)) (now (kinds .entry))) state
         (fitted (modelIn (tablesOf (now (literals .entry)) (now (ends .entry)) (now (sets .entry)) (now (kinds .entry))) state)
-        (Two (now (left .entry) ++ (pos (suc (state .variables .0)) ∷ [])) (now (right .entry) ++ (negsuc (state .variables .0) ∷ [])) set))
+        (Two (pick (split .left) (now (clause .entry)) ++ (pos (suc (state .variables .0)) ∷ [])) (pick (split .right) (now (clause .entry)) ++ (negsuc (state .variables .0) ∷ [])) (split .set)))
         (tablesOf (now (literals .exit)) (now (ends .exit)) (now (sets .exit)) (now (kinds .exit))) r ⌝ }
 {
-    let first = left.len() + 1;
-    let second = right.len() + 1;
+    let first = split.first + 1;
+    let second = split.second + 1;
     if adding::is_full(state, 2, (first + second) as u32, 1) {
         return refused(state, refusal::NO_ROOM);
     }
     let variables = state.variables;
     let variable = (variables.0 + 1) as i16;
-    let place = state.literals as usize;
-    writing::write_fork(&mut literals[place..], left, right, variable);
-    let next = adding::add_fork(ends, sets, kinds, state, first as u16, second as u16, set);
+    let last = state.literals as usize;
+    writing::write_fork(
+        &mut literals[last..],
+        clause,
+        split.left,
+        split.right,
+        variable,
+    );
+    let next = adding::add_fork(
+        ends,
+        sets,
+        kinds,
+        state,
+        first as u16,
+        second as u16,
+        split.set,
+    );
     let answer = StepAnswer::Accepted;
     Stepped {
         state: next,

@@ -1,3 +1,2 @@
-pub mod Merging
-pub mod Sets
+pub mod Places
 pub mod Writing

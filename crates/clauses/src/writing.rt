@@ -1,40 +1,91 @@
-// Writers of new clauses to the front of what they are lent, the tail of the literal table.
+// Writers of new clauses to the front of what they are lent, the tail of the literal table. Each answers how many literals it wrote.
 use dqbf::literal;
+ghost use mathlib.Core.Path.{_≡_};
 ghost use mathlib.Core.List.{[], _∷_, _++_};
 ghost use Prim.Native.Nat.{_+_, _<_, _≤_};
 ghost use lib.IntN.{natAbs, negℤ};
 ghost use lib.ListN.{length};
+ghost use Rattle.dqbf.specs.Literal as Literal;
+ghost use Rattle.clauses.specs.Places.{butAt, skipped};
 ghost use Rattle.clauses.specs.Writing.{Written};
 
-// The clause; the number of its literals.
+// The clause.
 pub fn write_clause(tail: &mut [i16], clause: &[i16]) -> usize
     requires { ⌜ length (now clause) ≤ length (now tail) ⌝ }
     ensures { λ r. ⌜ Written (now (clause .entry)) (now (tail .entry)) (now (tail .exit)) r ⌝ }
 {
+    let mut place = 0;
+    while place < clause.len() {
+        let l = clause[place];
+        tail[place] = l;
+        place += 1;
+    }
+    place
+}
+
+// The place in a clause of the literal that is at place i where the one at `place` is left out.
+fn skipping(i: usize, place: usize) -> usize
+    requires { ⌜ i < 18446744073709551615 ⌝ }
+    ensures { λ r. ⌜ r ≡ skipped i place ⌝ }
+{
+    if i < place {
+        return i;
+    }
+    i + 1
+}
+
+// The clause without the literal at a place.
+pub fn write_without(tail: &mut [i16], clause: &[i16], place: usize) -> usize
+    requires { ⌜ (place < length (now clause)) × (length (now clause) ≤ length (now tail) + 1) ⌝ }
+    ensures { λ r. ⌜ Written (butAt place (now (clause .entry))) (now (tail .entry)) (now (tail .exit)) r ⌝ }
+{
+    let n = clause.len() - 1;
     let mut count = 0;
-    while count < clause.len() {
-        let l = clause[count];
+    while count < n {
+        let from = skipping(count, place);
+        let l = clause[from];
         tail[count] = l;
         count += 1;
     }
     count
 }
 
-// The clause and a last literal behind it; the number of their literals.
-fn write_with(tail: &mut [i16], clause: &[i16], last: i16) -> usize
-    requires { ⌜ length (now clause) < length (now tail) ⌝ }
-    ensures { λ r. ⌜ Written (now (clause .entry) ++ (last ∷ [])) (now (tail .entry)) (now (tail .exit)) r ⌝ }
+// A part of a fork: the literals that a mask picks, bit i the one at place i, and the new literal behind them.
+// Each literal is written, and what does not belong to the part is written over: there is no branch.
+fn write_part(tail: &mut [i16], clause: &[i16], mask: u32, new: i16) -> usize
+    requires { ⌜ length (Literal.pick mask (now clause)) < length (now tail) ⌝ }
+    ensures { λ r. ⌜ Written (Literal.pick mask (now (clause .entry)) ++ (new ∷ [])) (now (tail .entry)) (now (tail .exit)) r ⌝ }
 {
-    let count = write_clause(tail, clause);
-    tail[count] = last;
-    count + 1
+    let n = clause.len();
+    let mut i = 0;
+    let mut width = 0;
+    let mut rest = mask;
+    while i < n {
+        let l = clause[i];
+        tail[width] = l;
+        i += 1;
+        let picked = rest % 2;
+        rest = rest / 2;
+        if picked == 1 {
+            width += 1;
+        }
+    }
+    tail[width] = new;
+    width + 1
 }
 
-// The two clauses of a fork, one behind the other: the left part with the new variable, the right part with its negation; the number of their literals.
-pub fn write_fork(tail: &mut [i16], left: &[i16], right: &[i16], variable: i16) -> usize
-    requires { ⌜ (length (now left) + length (now right) + 2 ≤ length (now tail)) × (natAbs variable < 32768) ⌝ }
-    ensures { λ r. ⌜ Written ((now (left .entry) ++ (variable ∷ [])) ++ (now (right .entry) ++ (negℤ variable ∷ []))) (now (tail .entry)) (now (tail .exit)) r ⌝ }
+// The two clauses of a fork, one behind the other: the left part with the new variable, the right part with its negation.
+pub fn write_fork(tail: &mut [i16], clause: &[i16], left: u32, right: u32, variable: i16) -> usize
+    requires { ⌜ (length (Literal.pick left (now clause)) + length (Literal.pick right (now clause)) + 2 ≤ length (now tail)) × (natAbs variable < 32768) ⌝ }
+    ensures { λ r. ⌜ Written ((Literal.pick left (now (clause .entry)) ++ (variable ∷ [])) ++ (Literal.pick right (now (clause .entry)) ++ (negℤ variable ∷ [])))
+        (now (tail .entry)) (now (tail .exit)) r ⌝ }
 {
-    let count = write_with(tail, left, variable);
-    count + write_with(&mut tail[count..], right, literal::negated(variable))
+    let count = write_part(tail, clause, left, variable);
+    count
+        + write_part(
+            &mut tail[count..],
+            clause,
+            right,
+            literal::negated(variable),
+        )
 }

@@ -1,11 +1,11 @@
-// The three rules (document 01, "Step records"), each with its tests in order.
+// The three rules (document 01, "Step records"), each with its tests in order. The sources of an accepted step are copied by value
+// before the tail of the literals is lent to its writer: two parts of one slice cannot be lent together.
 use crate::clause;
 use additions::Stepped;
 use additions::adding;
+use additions::adding::Split;
 use additions::refusal;
 use clauses::held;
-use clauses::resolvent;
-use clauses::sets as dependencies;
 use clauses::tests;
 use dqbf::literal;
 use dqbf::sets as words;
@@ -46,16 +46,21 @@ pub fn resolve(
     let negative = literal::negated(positive);
     let x = clause::clause_at(literals, ends, first);
     let y = clause::clause_at(literals, ends, second);
-    if !tests::holds(x, positive) {
+    let i = tests::place_of(x, positive);
+    if i >= x.len() {
         return adding::refused(state, refusal::NOT_IN_CLAUSE);
     }
-    if !tests::holds(y, negative) {
+    let j = tests::place_of(y, negative);
+    if j >= y.len() {
         return adding::refused(state, refusal::NOT_IN_CLAUSE);
     }
-    let union = resolvent::hold_resolvent(x, positive, y, negative);
-    let n = union.count;
-    let whole = union.literals;
-    adding::add_resolvent(&whole[..n], literals, ends, sets, kinds, state)
+    let left = held::hold_without(x, i);
+    let right = held::hold_without(y, j);
+    let n = left.count;
+    let m = right.count;
+    let a = left.literals;
+    let b = right.literals;
+    adding::add_resolvent(&a[..n], &b[..m], literals, ends, sets, kinds, state)
 }
 
 // Universal reduction: 21, 22, 26, 27, 25.
@@ -79,7 +84,8 @@ pub fn reduce(
     }
     let reduced = literal::narrowed(value);
     let x = clause::clause_at(literals, ends, number);
-    if !tests::holds(x, reduced) {
+    let place = tests::place_of(x, reduced);
+    if place >= x.len() {
         return adding::refused(state, refusal::NOT_IN_CLAUSE);
     }
     let variable = VariableNumber(literal::variable_of(reduced) as u32);
@@ -87,17 +93,17 @@ pub fn reduce(
         return adding::refused(state, refusal::NOT_UNIVERSAL);
     }
     let set = entries::set_of(sets, variable);
-    let held = held::hold_without(x, reduced);
-    let n = held.count;
-    let rest = held.literals;
     let variables = state.variables;
     let used = variables.0 as usize;
     // a universal's set is one place: another literal's set has it if the union of them has
-    let read = dependencies::clause_set(&rest[..n], &sets[..used]);
+    let read = clause_sets::set_without(x, place, &sets[..used]);
     if words::inside(set, read) {
         return adding::refused(state, refusal::READ_BY_ANOTHER);
     }
-    adding::add_one(&rest[..n], literals, ends, sets, kinds, state)
+    let held = held::hold(x);
+    let n = held.count;
+    let source = held.literals;
+    adding::add_reduced(&source[..n], place, literals, ends, sets, kinds, state)
 }
 
 // Fork: 21, 28, 29, 25.
@@ -124,31 +130,26 @@ pub fn fork(
     if !tests::covers(x, left, right) {
         return adding::refused(state, refusal::MASKS);
     }
-    let picked = held::hold_part(x, left);
-    let n = picked.count;
-    let first = picked.literals;
-    let other = held::hold_part(x, right);
-    let m = other.count;
-    let second = other.literals;
     let variables = state.variables;
     let used = variables.0 as usize;
-    let s = dependencies::clause_set(&first[..n], &sets[..used]);
-    let t = dependencies::clause_set(&second[..m], &sets[..used]);
-    if words::inside(s, t) {
+    let parts = clause_sets::measure_parts(x, left, right, &sets[..used]);
+    let first = parts.left;
+    let second = parts.right;
+    if words::inside(first.set, second.set) {
         return adding::refused(state, refusal::COMPARABLE);
     }
-    if words::inside(t, s) {
+    if words::inside(second.set, first.set) {
         return adding::refused(state, refusal::COMPARABLE);
     }
-    let set = words::common(s, t);
-    adding::add_parts(
-        &first[..n],
-        &second[..m],
-        set,
-        literals,
-        ends,
-        sets,
-        kinds,
-        state,
-    )
+    let held = held::hold(x);
+    let n = held.count;
+    let source = held.literals;
+    let split = Split {
+        left,
+        right,
+        first: first.count,
+        second: second.count,
+        set: words::common(first.set, second.set),
+    };
+    adding::add_parts(&source[..n], split, literals, ends, sets, kinds, state)
 }

@@ -1,21 +1,23 @@
 -- What a step leaves of tables that hold a model (specs/Adding.antt): one law for a refusal, one for each addition, one for each outcome of `fitted` and `tested`.
 use mathlib.Core.Path.{_≡_, refl, sym, _∙_, ap}
+use mathlib.Core.Logic.{_≢_}
 use mathlib.Core.Bool.{Bool, true, false, cond}
-use mathlib.Core.List.{List, [], _∷_, _++_}
+use mathlib.Core.List.{List, [], _∷_, _++_, append-assoc}
 use native.Mathlib.Nat.{add-zero}
 use Prim.Native.Nat.{ℕ, suc, _+_, _-_, _≤_, _<_}
 use native.Mathlib.Omega.{arith}
-use borrow.Author.Tests.{lt-ltb, le-ltb}
-use lib.Dec.{ltb}
+use borrow.Author.Tests.{eq-eqb, ne-eqb, lt-ltb, le-ltb}
+use lib.Dec.{eqb, ltb}
 use lib.IntN.{ℤ, pos, negsuc, negℤ, natAbs}
 use mir.Syntax.{w16}
 use mir.Val.{SFits, toZ}
 use mir.Facts.{toZ-pos}
 use native.Mathlib.Numerals.{add-one}
-use lib.ListN.{length, set, take, drop, length-append}
-use borrow.Rule.Slice.PartMut.{putMid}
+use lib.ListN.{length, set, take, drop, replicate, length-append, length-drop, take-append-drop}
+use lib.Seq.{length-take-le, drop-append-le}
+use borrow.Rule.Slice.PartMut.{putMid, put-same}
 use Rattle.tables.proofs.Laws.Rows.{stored-stored, stored-tail}
-use Rattle.dqbf.specs.Limits.{tables, widthLimit, clauseLimit, variableLimit}
+use Rattle.dqbf.specs.Limits.{tables, widthLimit, clauseLimit, literalLimit, variableLimit}
 use Rattle.dqbf.specs.Refusal.{Refusal, refusal}
 use Rattle.dqbf.specs.Literal.{Clause, clashes, total}
 use Rattle.dqbf.specs.Set.{Set}
@@ -24,15 +26,20 @@ use Rattle.dqbf.specs.Rules.{Addition, noRoom}
 use Rattle.dqbf.specs.Run.{Examined, accepts, refuses, after}
 use Rattle.dqbf.specs.Published.{Fits}
 use Rattle.dqbf.proofs.Laws.Models.{fits-in}
-use Rattle.tables.specs.Tables.{Tables, tablesOf, modelIn}
-use Rattle.tables.specs.Spread.{spread, stateOf}
+use Rattle.tables.specs.Tables.{Tables, tablesOf, modelIn, stretch}
 use Rattle.tables.specs.Adding.{stored, clauseEnded, variableAdded, stepCounted, full, RoomFor}
 use Rattle.tables.specs.declared.State.{State}
 use Rattle.tables.proofs.Laws.Spread.{model-held, state-held}
 use Rattle.tables.proofs.Laws.Adding.{one-clause, two-clauses, room-told, room-one, room-two, step-room}
-use Rattle.tables.proofs.Laws.Formed.{long-is}
+use Rattle.tables.specs.WellFormed.{isZeroLiteral}
+use Rattle.tables.proofs.Laws.Tests.{all-same}
+use Rattle.tables.proofs.Laws.Held.{zero-literal-is}
+use Rattle.tables.proofs.Laws.Formed.{long-is, formed-is}
+use Rattle.dqbf.proofs.Laws.Tests.{ltb-no}
+use Rattle.joins.specs.Joining.{overlaid}
+use Rattle.joins.proofs.Laws.Overlays.{overlaid-fits}
 use Rattle.additions.specs.Examined.{AfterStep, stepAnswer, examined}
-use Rattle.additions.specs.Adding.{Holding, After, One, Two, fitted, tested}
+use Rattle.additions.specs.Adding.{Holding, After, One, Two, fitted, tested, refusalNumber}
 use Rattle.additions.specs.declared.Stepped.{Stepped}
 use Rattle.additions.specs.declared.StepAnswer.the-variants.{Accepted, Refused}
 
@@ -81,25 +88,45 @@ pub fitted-accepted : (m : Model) (a : Addition) → noRoom tables m a ≡ false
 unfolding fitted
 fitted-accepted m a h = rw h
 
-module _ (m : Model) (C : Clause) where
-  pub tested-24 : widthLimit < length C → tested m C ≡ refuses (refusal 24)
-  unfolding tested
-  tested-24 h = rw (lt-ltb widthLimit (length C) h)
+-- ---- the number of refusal of a resolvent, by its tests
 
-  module _ (narrow : length C ≤ widthLimit) where
-    pub tested-23 : clashes C ≡ true → tested m C ≡ refuses (refusal 23)
-    unfolding tested
-    tested-23 h = rw (le-ltb widthLimit (length C) narrow, h)
+module _ (s : State) (n : ℕ) (b : Bool) where
+  pub number-24 : widthLimit < n → 24 ≡ refusalNumber s n b
+  unfolding refusalNumber
+  number-24 h = rw (lt-ltb widthLimit n h)
 
-    pub tested-fitted : clashes C ≡ false → tested m C ≡ fitted m (One C)
-    unfolding tested
-    tested-fitted h = rw (le-ltb widthLimit (length C) narrow, h)
+  module _ (narrow : n ≤ widthLimit) where
+    pub number-23 : b ≡ true → 23 ≡ refusalNumber s n b
+    unfolding refusalNumber
+    number-23 h = rw (le-ltb widthLimit n narrow, h)
+
+    module _ (calm : b ≡ false) {f : Bool} (told : f ≡ full s 1 n 0) where
+      pub number-25 : f ≡ true → 25 ≡ refusalNumber s n b
+      unfolding refusalNumber
+      number-25 h = rw (le-ltb widthLimit n narrow, calm, ← told, h)
+
+      pub number-0 : f ≡ false → 0 ≡ refusalNumber s n b
+      unfolding refusalNumber
+      number-0 h = rw (le-ltb widthLimit n narrow, calm, ← told, h)
 
 -- ---- what the functions of src/adding.rt leave
 
 -- the tail lent to a writer, back with what it wrote
 pub tail-stored : {A : Type 0} (xs ys zs : List A) (n : ℕ) → zs ≡ ys ++ drop (length ys) (take (length xs - n) (drop n xs)) → putMid n (length xs - n) xs zs ≡ stored xs n ys
 tail-stored xs ys zs n e = rw e (stored-tail xs n ys)
+
+-- a part of it lent, and back with what was written over its front
+pub part-stored : {A : Type 0} (xs ys : List A) (n m : ℕ) → n + length ys ≤ m → m ≤ length xs → putMid n (m - n) xs (overlaid ys (take (m - n) (drop n xs))) ≡ stored xs n ys
+unfolding stored
+part-stored xs ys n m h k =
+    let room : length (take (m - n) (drop n xs)) ≡ m - n = length-take-le (m - n) (drop n xs) (omega (arith, length-drop n xs)) in
+    let fits : length ys ≤ length (take (m - n) (drop n xs)) = omega arith in
+    rw (
+      overlaid-fits ys (take (m - n) (drop n xs)) fits,
+      append-assoc ys (drop (length ys) (take (m - n) (drop n xs))) (drop (m - n) (drop n xs)),
+      ← drop-append-le (length ys) (take (m - n) (drop n xs)) (drop (m - n) (drop n xs)) fits,
+      take-append-drop (m - n) (drop n xs),
+    )
 
 module _ (t : Tables) (s : State) (h : Holding t s) where
   -- a refusal that the tests come to
@@ -127,24 +154,67 @@ module _ (t : Tables) (s : State) (h : Holding t s) where
       pub one-asked : {n : ℕ} → n ≡ length C → RoomFor s 1 n 0 × (clauseLimit ≤ length (t .ends)) × (s .steps .0 < clauseLimit)
       one-asked q = (rw q (room-one t s (h .lent) (h .formed) C fits), long-is t (h .lent) .ends, step-room t s (h .lent) (h .formed) (One C) fits (omega arith))
 
-      pub one-added : {n : ℕ} {l z : List ℤ} {d : List ℕ} {r : State} → n ≡ length C → z ≡ C ++ drop (length C) (take (length (t .literals) - s .literals) (drop (s .literals) (t .literals)))
-          → l ≡ putMid (s .literals) (length (t .literals) - s .literals) (t .literals) z → d ≡ set (t .ends) (s .clauses .0) (s .literals + n) → r ≡ stepCounted (clauseEnded s n)
+      pub one-added : {n : ℕ} {l : List ℤ} {d : List ℕ} {r : State} → n ≡ length C → l ≡ stored (t .literals) (s .literals) C → d ≡ set (t .ends) (s .clauses .0) (s .literals + n) → r ≡ stepCounted (clauseEnded s n)
           → After t s e (tablesOf l d (t .sets) (t .kinds)) (record { state = r; answer = Accepted })
-      one-added {z = z} q p o u v =
-          rw (is, fitted-accepted (modelIn t s) (One C) (no-room ∙ free), o, tail-stored (t .literals) C z (s .literals) p, u, v, q) (left-one t s h C fits)
+      one-added q o u v = rw (is, fitted-accepted (modelIn t s) (One C) (no-room ∙ free), o, u, v, q) (left-one t s h C fits)
 
-  -- ---- a resolvent
+  -- ---- a resolvent, tested by its number
 
-  module _ (C : Clause) where
-    pub resolvent-wide : {r : Stepped} → widthLimit < length C → r ≡ record { state = s; answer = Refused 24 } → After t s (tested (modelIn t s) C) t r
-    resolvent-wide h p = after-refused (tested (modelIn t s) C) (refusal 24) (tested-24 (modelIn t s) C h) p
+  module _ (C : Clause) {x : ℕ} (isX : x ≡ refusalNumber s (length C) (clashes C)) where
+    room-is : noRoom tables (modelIn t s) (One C) ≡ full s 1 (length C) 0
+    room-is = no-room (fitted (modelIn t s) (One C)) C refl refl refl
 
-    module _ (narrow : length C ≤ widthLimit) {b : Bool} (clash : b ≡ clashes C) where
-      pub resolvent-clashes : {r : Stepped} → b ≡ true → r ≡ record { state = s; answer = Refused 23 } → After t s (tested (modelIn t s) C) t r
-      resolvent-clashes h p = after-refused (tested (modelIn t s) C) (refusal 23) (tested-23 (modelIn t s) C narrow (sym clash ∙ h)) p
+    by-number : tested (modelIn t s) C ≡ cond (eqb x 0) (fitted (modelIn t s) (One C)) (refuses (refusal x))
+    unfolding tested fitted refusalNumber
+    by-number = rw (isX, room-is) (go (ltb widthLimit (length C)) (clashes C) (full s 1 (length C) 0))
+      where
+        number : Bool → Bool → Bool → ℕ
+        number a b f = cond a 24 (cond b 23 (cond f 25 0))
 
-      pub resolvent-added : {t′ : Tables} {r : Stepped} → b ≡ false → After t s (fitted (modelIn t s) (One C)) t′ r → After t s (tested (modelIn t s) C) t′ r
-      resolvent-added calm e = e ∙ ap (examined t (modelIn t s)) (sym (tested-fitted (modelIn t s) C narrow (sym clash ∙ calm)))
+        room : Bool → Examined
+        room f = cond f (refuses (refusal 25)) (accepts (One C))
+
+        go : (a b f : Bool) → cond a (refuses (refusal 24)) (cond b (refuses (refusal 23)) (room f)) ≡ cond (eqb (number a b f) 0) (room f) (refuses (refusal (number a b f)))
+        go true b f = refl
+        go false true f = refl
+        go false false true = refl
+        go false false false = refl
+
+    -- z is what is left of the tail that was lent for it
+    module _ {z : List ℤ} (left : let tail = stretch (s .literals) literalLimit (t .literals) in z ≡ cond (eqb x 0) (overlaid C tail) tail) where
+      abbrev back : List ℤ
+      back = putMid (s .literals) (literalLimit - s .literals) (t .literals) z
+
+      pub resolvent-refused : {r : Stepped} → x ≢ 0 → r ≡ record { state = s; answer = Refused x } → After t s (tested (modelIn t s) C) (tablesOf back (t .ends) (t .sets) (t .kinds)) r
+      resolvent-refused n p =
+          let same : back ≡ t .literals = rw (left, ne-eqb x 0 n) (put-same (s .literals) (literalLimit - s .literals) (t .literals)) in
+          rw same (after-refused (tested (modelIn t s) C) (refusal x) (by-number ∙ rw (ne-eqb x 0 n)) p)
+
+      pub resolvent-stored : x ≡ 0 → s .literals + length C ≤ literalLimit → back ≡ stored (t .literals) (s .literals) C
+      resolvent-stored none room = rw (left, eq-eqb x 0 none) (part-stored (t .literals) C (s .literals) literalLimit room (long-is t (h .lent) .literals))
+
+    module _ (none : x ≡ 0) where
+      pub resolvent-fitted : tested (modelIn t s) C ≡ fitted (modelIn t s) (One C)
+      resolvent-fitted = by-number ∙ rw (eq-eqb x 0 none)
+
+      resolvent-narrow : (length C ≤ widthLimit) × (full s 1 (length C) 0 ≡ false)
+      unfolding refusalNumber
+      resolvent-narrow = go (ltb widthLimit (length C)) refl (clashes C) (full s 1 (length C) 0) (sym isX ∙ none)
+        where
+          go : (a : Bool) → ltb widthLimit (length C) ≡ a → (b f : Bool) → _≡_ {A = ℕ} (cond a 24 (cond b 23 (cond f 25 0))) 0 → (length C ≤ widthLimit) × (f ≡ false)
+          go true e b f q = absurd (omega arith)
+          go false e true f q = absurd (omega arith)
+          go false e false true q = absurd (omega arith)
+          go false e false false q = (ltb-no widthLimit (length C) e, refl)
+
+      pub resolvent-fits : (length C ≤ widthLimit) × (full s 1 (length C) 0 ≡ false) × (s .literals + length C ≤ literalLimit)
+      resolvent-fits =
+          let free = resolvent-narrow .1 in
+          (resolvent-narrow .0, free, room-one t s (h .lent) (h .formed) C (fits-in tables (modelIn t s) (One C) (room-is ∙ free)) .literals-fit)
+
+  -- the tail that is lent for it has zeros
+  pub zero-tail : let tail = stretch (s .literals) literalLimit (t .literals) in tail ≡ replicate (length tail) (pos 0)
+  zero-tail = all-same isZeroLiteral (pos 0) zero-literal-is (stretch (s .literals) literalLimit (t .literals)) (formed-is t s (h .formed) .zero-literals)
 
 -- ---- two clauses and a variable
 
@@ -222,7 +292,8 @@ new-small v h = rw (new-literal v h) (omega arith)
 
 -- ---- the parts of a fork
 
-module _ (t : Tables) (s : State) (h : Holding t s) (X Y : Clause) (w : Set) {f : Bool} (told : f ≡ full s 2 (length X + 1 + (length Y + 1)) 1) where
+module _ (t : Tables) (s : State) (h : Holding t s) (X Y : Clause) (w : Set) {a b : ℕ} (isA : a ≡ length X) (isB : b ≡ length Y) {f : Bool}
+    (told : f ≡ full s 2 (a + 1 + (b + 1)) 1) where
   abbrev C : Clause
   C = X ++ (pos (suc (s .variables .0)) ∷ [])
 
@@ -232,11 +303,11 @@ module _ (t : Tables) (s : State) (h : Holding t s) (X Y : Clause) (w : Set) {f 
   abbrev forked : Examined
   forked = fitted (modelIn t s) (Two C D w)
 
-  first : length X + 1 ≡ length C
-  first = one-more X (pos (suc (s .variables .0))) refl
+  first : a + 1 ≡ length C
+  first = one-more X (pos (suc (s .variables .0))) isA
 
-  second : length Y + 1 ≡ length D
-  second = one-more Y (negsuc (s .variables .0)) refl
+  second : b + 1 ≡ length D
+  second = one-more Y (negsuc (s .variables .0)) isB
 
   pub fork-full : {r : Stepped} → f ≡ true → r ≡ record { state = s; answer = Refused 25 } → After t s forked t r
   fork-full = two-full t s h forked C D w refl first second refl told
@@ -246,9 +317,9 @@ module _ (t : Tables) (s : State) (h : Holding t s) (X Y : Clause) (w : Set) {f 
     fork-variable = two-variable t s h forked C D w refl first second refl told free
 
     pub fork-room : s .literals + (length X + length Y + 2) ≤ length (t .literals)
-    fork-room = omega (arith, two-room t s h forked C D w refl first second refl told free, first, second)
+    fork-room = omega (arith, two-room t s h forked C D w refl first second refl told free, first, second, isA, isB)
 
-    pub fork-asked : RoomFor s 2 (length X + 1 + (length Y + 1)) 1 × (clauseLimit ≤ length (t .ends)) × (variableLimit ≤ length (t .sets)) × (variableLimit ≤ length (t .kinds))
+    pub fork-asked : RoomFor s 2 (a + 1 + (b + 1)) 1 × (clauseLimit ≤ length (t .ends)) × (variableLimit ≤ length (t .sets)) × (variableLimit ≤ length (t .kinds))
         × (s .steps .0 < clauseLimit)
     fork-asked = two-asked t s h forked C D w refl first second refl told free
 
@@ -257,7 +328,7 @@ module _ (t : Tables) (s : State) (h : Holding t s) (X Y : Clause) (w : Set) {f 
         ++ drop (length ((X ++ (toZ w16 (s .variables .0 + 1) ∷ [])) ++ (Y ++ (negℤ (toZ w16 (s .variables .0 + 1)) ∷ []))))
         (take (length (t .literals) - s .literals) (drop (s .literals) (t .literals)))
         → l ≡ putMid (s .literals) (length (t .literals) - s .literals) (t .literals) z
-        → d ≡ set (set (t .ends) (s .clauses .0) (s .literals + (length X + 1))) (s .clauses .0 + 1) (s .literals + (length X + 1) + (length Y + 1))
+        → d ≡ set (set (t .ends) (s .clauses .0) (s .literals + (a + 1))) (s .clauses .0 + 1) (s .literals + (a + 1) + (b + 1))
         → u ≡ set (t .sets) (s .variables .0) w → k ≡ set (t .kinds) (s .variables .0) 3
-        → r ≡ stepCounted (variableAdded (clauseEnded (clauseEnded s (length X + 1)) (length Y + 1))) → After t s forked (tablesOf l d u k) (record { state = r; answer = Accepted })
+        → r ≡ stepCounted (variableAdded (clauseEnded (clauseEnded s (a + 1)) (b + 1))) → After t s forked (tablesOf l d u k) (record { state = r; answer = Accepted })
     fork-added p = two-added t s h forked C D w refl first second refl told free (rw (new-literal (s .variables .0) fork-variable) at p)

@@ -1,75 +1,79 @@
--- The operations on one clause (dqbf's specs/Literal.antt), a literal at a time: `holds`, `without`, `pick`, `covers`, `clashes`.
--- Of each: what it is where a loop has nothing before it, D ≡ [], and by its literal in front, D ≡ k ∷ R.
+-- The operations on one clause (dqbf's specs/Literal.antt, specs/Places.antt), a literal at a time: `placeOf`, `pick`, `covers`.
+-- Of the first two: what it is where a loop has nothing before it, D ≡ [], and by its literal in front, D ≡ k ∷ R.
+-- `place-holds`, `without-place`: what the place of a literal tells of `holds` and `without`.
 use mathlib.Core.Path.{_≡_, refl, ap, sym, _∙_}
 use mathlib.Core.Logic.{_⊎_, inl, inr, _≢_}
-use mathlib.Core.Bool.{Bool, true, false, _&&_, _||_}
-use mathlib.Core.List.{[], _∷_}
+use mathlib.Core.Bool.{Bool, true, false, cond, _&&_, _||_}
+use mathlib.Core.List.{[], _∷_, List·Memᴰ·head, List·Memᴰ·tail}
 use Prim.Native.Nat.{ℕ, zero, suc, _+_, _-_, _*_, _/_, _%_, _≤_, _<_, _^_, max}
-use native.Mathlib.Nat.{mod-lt, one-mul, pow-suc}
+use native.Mathlib.Nat.{mod-lt, one-mul, pow-suc, suc-add}
+use native.Mathlib.Decide.{decLt}
 use native.Mathlib.Omega.{arith}
-use borrow.Author.Tests.{eq-eqb, ne-eqb, eqb-true, eqb-false}
+use borrow.Author.Tests.{eq-eqb, ne-eqb, eqb-true, eqb-false, lt-ltb, le-ltb}
 use lib.Bits.{bitOr, or-step}
-use lib.Dec.{eqb, eqb·suc-zero}
-use lib.IntN.{ℤ, pos, natAbs}
-use lib.ListN.{length, drop, getD}
+use lib.Dec.{eqb, ltb, eqb·suc-zero}
+use lib.IntN.{ℤ, natAbs}
+use lib.ListN.{length}
 use lib.Pow.{pow-pos, shl-exact}
-use lib.Signed.{mag}
-use mir.Syntax.{w16}
-use mir.Val.{SFits, toZ, ofZ}
 use Rattle.dqbf.specs.Limits.{widthLimit}
-use Rattle.dqbf.specs.Literal.{Clause, holds, without, pick, covers, clashes}
+use Rattle.dqbf.specs.Literal.{Clause, _∈_, same, holds, without, pick, covers}
 use Rattle.dqbf.specs.Set.{bit}
-use Rattle.dqbf.proofs.Laws.Literals.{same-same, same-not}
-use Rattle.dqbf.proofs.Laws.Signed.{var-kept}
+use Rattle.dqbf.specs.Valid.{Ascending}
+use Rattle.dqbf.proofs.Laws.Literals.{same-is, same-same, same-not}
 use Rattle.dqbf.proofs.Laws.Tests.{either, or-no}
 use Rattle.dqbf.proofs.Laws.Words.{bit-or, bit-ext, bit-zero}
-use Rattle.clauses.proofs.Laws.Places.{list-front}
-use Rattle.clauses.proofs.Laws.Literals.{bits-same, bits-differ}
+use Rattle.clauses.specs.Places.{placeOf, butAt}
+
+-- ---- placeOf
+
+ltb-suc : (a b : ℕ) → ltb (suc a) (suc b) ≡ ltb a b
+ltb-suc a b = go (decLt a b)
+  where
+    go : Dec (a < b) → ltb (suc a) (suc b) ≡ ltb a b
+    go (yes h) = lt-ltb (suc a) (suc b) (omega arith) ∙ sym (lt-ltb a b h)
+    go (no h) = le-ltb (suc a) (suc b) (omega arith) ∙ sym (le-ltb a b (omega arith))
 
 module _ (l : ℤ) where
-  -- ---- holds
+  -- behind i literals that are others, n is the place
 
-  pub holds-end : {D : Clause} → D ≡ [] → holds l D ≡ false
-  unfolding holds
-  holds-end e = rw e
+  module _ {D R : Clause} {k : ℤ} (e : D ≡ k ∷ R) {n : ℕ} (i : ℕ) (p : n ≡ i + placeOf l D) where
+    pub place-found : k ≡ l → i ≡ n
+    unfolding placeOf
+    place-found q = let here : placeOf l D ≡ 0 = rw (e, q, same-same l) in omega (arith, here)
 
-  module _ {D R : Clause} {k : ℤ} (e : D ≡ k ∷ R) where
-    pub holds-found : k ≡ l → holds l D ≡ true
-    unfolding holds
-    holds-found q = rw (e, q, same-same l)
+    pub place-passed : k ≢ l → n ≡ i + 1 + placeOf l R
+    unfolding placeOf
+    place-passed m = let next : placeOf l D ≡ suc (placeOf l R) = rw (e, same-not k l m) in omega (arith, next)
 
-    pub holds-passed : k ≢ l → holds l D ≡ holds l R
-    unfolding holds
-    holds-passed n = rw (e, same-not k l n)
+  pub place-end : {D : Clause} → D ≡ [] → {n : ℕ} (i : ℕ) → n ≡ i + placeOf l D → i ≡ n
+  unfolding placeOf
+  place-end {D} e i p = let none : placeOf l D ≡ 0 = rw e in omega (arith, none)
 
-  pub holds-all : {D : Clause} → D ≡ [] → (found : Bool) → (found || holds l D) ≡ found
-  holds-all e true = refl
-  holds-all e false = holds-end e
+  -- the literal stands in the clause exactly if its place does
+  pub place-holds : (C : Clause) → holds l C ≡ ltb (placeOf l C) (length C)
+  unfolding holds placeOf
+  place-holds [] = refl
+  place-holds (k ∷ C) = go (same k l) (place-holds C)
+    where
+      go : (b : Bool) → holds l C ≡ ltb (placeOf l C) (length C) → (b || holds l C) ≡ ltb (cond b 0 (suc (placeOf l C))) (suc (length C))
+      go true q = sym (lt-ltb 0 (suc (length C)) (omega arith))
+      go false q = q ∙ sym (ltb-suc (placeOf l C) (length C))
 
-  -- ---- without
-
-  pub without-end : {D : Clause} → D ≡ [] → without l D ≡ []
+  without-none : (C : Clause) → ((k : ℤ) → k ∈ C → k ≢ l) → without l C ≡ C
   unfolding without
-  without-end e = rw e
+  without-none [] n = refl
+  without-none (k ∷ C) n = rw (same-not k l (n k (List·Memᴰ·head refl)), without-none C (λ j q. n j (List·Memᴰ·tail q)))
 
-  module _ {D R : Clause} {k : ℤ} (e : D ≡ k ∷ R) where
-    pub without-kept : k ≢ l → without l D ≡ k ∷ without l R
-    unfolding without
-    without-kept n = rw (e, same-not k l n)
-
-    pub without-dropped : k ≡ l → without l D ≡ without l R
-    unfolding without
-    without-dropped q = rw (e, q, same-same l)
-
--- a loop that has `found` so far, and compares the bits of the next literal
-pub holds-next : (l : ℤ) → SFits w16 l → {D R : Clause} {k : ℤ} → D ≡ k ∷ R → mag k < 2 ^ 15 → (found : Bool)
-    → (found || holds (toZ w16 (ofZ w16 l)) D) ≡ ((found || eqb (ofZ w16 k) (ofZ w16 l)) || holds (toZ w16 (ofZ w16 l)) R)
-holds-next l fits {D} {R} {k} e f found = go found (eqb (ofZ w16 k) (ofZ w16 l)) refl
-  where
-    go : (b c : Bool) → eqb (ofZ w16 k) (ofZ w16 l) ≡ c → (b || holds (toZ w16 (ofZ w16 l)) D) ≡ ((b || c) || holds (toZ w16 (ofZ w16 l)) R)
-    go true c q = refl
-    go false true q = holds-found (toZ w16 (ofZ w16 l)) e (bits-same f (eqb-true (ofZ w16 k) (ofZ w16 l) q))
-    go false false q = holds-passed (toZ w16 (ofZ w16 l)) e (bits-differ fits (eqb-false (ofZ w16 k) (ofZ w16 l) q))
+  -- an ascending clause holds it once
+  pub without-place : (C : Clause) → Ascending C → placeOf l C < length C → butAt (placeOf l C) C ≡ without l C
+  unfolding placeOf without Ascending
+  without-place [] a h = refl
+  without-place (k ∷ C) a h = go (same k l) refl h (without-place C (a .1))
+    where
+      go : (b : Bool) → same k l ≡ b → cond b 0 (suc (placeOf l C)) < suc (length C) → (placeOf l C < length C → butAt (placeOf l C) C ≡ without l C)
+          → butAt (cond b 0 (suc (placeOf l C))) (k ∷ C) ≡ cond b (without l C) (k ∷ without l C)
+      go true e q rest = sym (without-none C (λ j m s. let u = a .0 j m in let v = ap natAbs (s ∙ sym (same-is k l e)) in absurd (omega arith)))
+      go false e q rest = rw (suc-add (placeOf l C) 1) (ap (λ (D : Clause). k ∷ D) (rest (omega arith)))
 
 -- ---- pick
 
@@ -124,47 +128,3 @@ covers-bits left right (l ∷ C) =
 -- the power of 2 for a width, as the machine shifts it
 pub shifted : (n : ℕ) → n ≤ widthLimit → (1 * 2 ^ n) % 2 ^ 64 ≡ 2 ^ n
 shifted n h = shl-exact {a = 1} 1 n 64 (omega arith) (omega arith) ∙ one-mul (2 ^ n)
-
--- ---- clashes, of a list from place i on, whose entries there were read
-
-pub clashes-short : (D : Clause) → length D ≤ 1 → clashes D ≡ false
-unfolding clashes
-clashes-short [] h = refl
-clashes-short (l ∷ []) h = refl
-clashes-short (l ∷ k ∷ C) h = absurd (omega arith)
-
-module _ (C : Clause) (i : ℕ) where
-  abbrev l : ℤ
-  l = getD C i (pos 0)
-
-  abbrev k : ℤ
-  k = getD C (i + 1) (pos 0)
-
-  abbrev variable : ℤ → ℕ
-  variable e = natAbs (toZ w16 (ofZ w16 e))
-
-  module _ (h : i + 1 < length C) (fl : mag l < 2 ^ 15) (fk : mag k < 2 ^ 15) where
-    fronts : drop i C ≡ l ∷ k ∷ drop (i + 1 + 1) C
-    fronts = list-front C i (pos 0) (omega arith) ∙ ap (l ∷_) (list-front C (i + 1) (pos 0) h)
-
-    pub clashes-found : variable l ≡ variable k → clashes (drop i C) ≡ true
-    unfolding clashes
-    clashes-found q = rw (fronts, eq-eqb (natAbs l) (natAbs k) (omega (arith, var-kept l fl, var-kept k fk)))
-
-    pub clashes-passed : variable l ≢ variable k → clashes (drop i C) ≡ clashes (drop (i + 1) C)
-    unfolding clashes
-    clashes-passed n =
-        rw (fronts, ne-eqb (natAbs l) (natAbs k) (λ e. n (omega (arith, var-kept l fl, var-kept k fk))), list-front C (i + 1) (pos 0) h)
-
-    -- a loop that has `found` so far
-    pub clashes-next : {a b : ℕ} → a ≡ variable l → b ≡ variable k → (found : Bool) → (found || clashes (drop i C)) ≡ ((found || eqb a b) || clashes (drop (i + 1) C))
-    clashes-next {a} {b} p q found = go found (eqb a b) refl
-      where
-        go : (d c : Bool) → eqb a b ≡ c → (d || clashes (drop i C)) ≡ ((d || c) || clashes (drop (i + 1) C))
-        go true c r = refl
-        go false true r = clashes-found (sym p ∙ eqb-true a b r ∙ q)
-        go false false r = clashes-passed (λ e. eqb-false a b r (p ∙ e ∙ sym q))
-
-pub clashes-all : (D : Clause) → length D ≤ 1 → (found : Bool) → (found || clashes D) ≡ found
-clashes-all D h true = refl
-clashes-all D h false = clashes-short D h

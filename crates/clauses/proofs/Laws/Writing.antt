@@ -1,16 +1,17 @@
 -- Writing a list to the front of another (specs/Writing.antt), an element at a time, and over the tail of a table that is lent for it. Any element type.
 -- Offers: `Copying`, where a writer stands, with `copying-start`, `copying-kept`, `copying-passed`, `copying-done`; `Writing`, that it left the rest as it was,
--- with `writing-start`, `writing-more`, `writing-done`; of what it left, `copied-behind`, `copied-length`, `copied-within`, `written-more`, `written-behind`;
--- for a table whose tail from n on is lent, `tail-room`, what a writer into it requires, and `tail-stored`, the table after it.
+-- with `writing-start`, `writing-more`, `writing-done`; `Parting`, but for the element right behind, with `parting-start`, `parting-room`, `parting-kept`,
+-- `parting-passed`, `parting-done`; of what was written, `copied-length`, `copied-within`, `written-copied`, `written-behind`; `tail-room`, what a writer requires that is
+-- lent the tail of a table from n on.
 use mathlib.Core.Path.{_≡_, refl, ap, sym, _∙_}
 use mathlib.Core.List.{List, [], _∷_, _++_, append-nil}
-use Prim.Native.Nat.{ℕ, _+_, _-_, _<_, _≤_}
+use Prim.Native.Nat.{ℕ, suc, _+_, _-_, _<_, _≤_}
 use native.Mathlib.Numerals.{add-one}
 use native.Mathlib.Omega.{arith}
 use borrow.Rule.Slice.PartMut.{putMid}
 use lib.ListN.{length, take, drop, set, length-set, length-append, length-drop, length-take, take-append-drop}
-use lib.Seq.{append-snoc, length-take-le, drop-set-lt, take-set-le, take-suc-set, drop-drop, take-append-add}
-use Rattle.dqbf.proofs.Laws.Parts.{front-part, front-set, tail-lent, tail-back, tail-written}
+use lib.Seq.{append-snoc, length-take-le, drop-set-lt, take-set-le, take-suc-set, drop-drop, take-append-seam, set-split}
+use Rattle.dqbf.proofs.Laws.Parts.{front-part, tail-lent}
 use Rattle.clauses.specs.Writing.{Written, Copied}
 
 module _ {A : Type 0} where
@@ -50,16 +51,6 @@ module _ {A : Type 0} where
         let front : take count zs ≡ ys = sym (w .parts ∙ rw (e, append-nil (take count zs))) in
         record { count = sym (length-take-le count zs (w .within)) ∙ ap length front; front = front }
 
-  -- another list copied behind what stands there, over the tail that is lent from n on
-  pub copied-behind : (zs : List A) (n : ℕ) → n ≤ length zs → {us ws : List A} {k : ℕ} → length ws ≡ length (take (length zs - n) (drop n zs)) → Copied us ws k
-      → Copied (take n zs ++ us) (putMid n (length zs - n) zs ws) (n + k)
-  copied-behind zs n h {us} {ws} {k} same v =
-      let fronts : length (take n zs) ≡ n = length-take-le n zs h in
-      record {
-        count = omega (arith, length-append (take n zs) us, fronts, v .count);
-        front = rw (tail-back zs ws n, ← v .front) (ap (λ (i : ℕ). take (i + k) (take n zs ++ ws)) (sym fronts) ∙ take-append-add (take n zs) ws k);
-      }
-
   -- ---- writing
 
   -- what stands behind is left
@@ -84,6 +75,47 @@ module _ {A : Type 0} where
         let done : Copied ys zs count = copying-done (w .copied) e in
         record { count = done .count; left = sym (take-append-drop count zs) ∙ rw (done .front, w .behind, done .count) }
 
+  -- ---- writing a part, behind which one more element will be written
+
+  pub record Parting (ys xs zs : List A) (count : ℕ) (rest : List A) : Type 0 where
+    pub copied : Copying ys xs zs count rest
+    pub behind : drop (count + 1) zs ≡ drop (count + 1) xs
+
+  pub parting-start : (ys xs : List A) → Parting ys xs xs 0 ys
+  parting-start ys xs = record { copied = copying-start ys xs; behind = refl }
+
+  module _ {ys xs zs : List A} {count : ℕ} {rest : List A} (w : Parting ys xs zs count rest) (room : length ys < length xs) where
+    pub parting-room : count < length zs
+    parting-room =
+        omega (
+          arith,
+          ap length (w .copied .parts),
+          length-append (take count zs) rest,
+          length-take-le count zs (w .copied .within),
+          w .copied .same,
+        )
+
+    abbrev next : count < count + 1
+    next = omega arith
+
+    pub parting-kept : {v y : A} {more : List A} → rest ≡ y ∷ more → v ≡ y → Parting ys xs (set zs count v) (count + 1) more
+    parting-kept {v} e q = record {
+      copied = copying-kept (w .copied) parting-room e q;
+      behind = rw (drop-set-lt (count + 1 + 1) zs count v (omega arith), ← drop-drop 1 (count + 1) zs, ← drop-drop 1 (count + 1) xs, w .behind);
+    }
+
+    pub parting-passed : (v : A) {more : List A} → rest ≡ more → Parting ys xs (set zs count v) count more
+    parting-passed v e = record { copied = copying-passed (w .copied) v e; behind = drop-set-lt (count + 1) zs count v next ∙ w .behind }
+
+    pub parting-done : {v y : A} → rest ≡ [] → v ≡ y → Written (ys ++ (y ∷ [])) xs (set zs count v) (count + 1)
+    parting-done {y = y} e q =
+        let done : Copied ys zs count = copying-done (w .copied) e in
+        let total : length (ys ++ (y ∷ [])) ≡ count + 1 = omega (arith, length-append ys (y ∷ []), done .count) in
+        record {
+          count = sym total;
+          left = rw (q, total, set-split zs count y parting-room, done .front, ← w .behind, add-one count) (sym (append-snoc ys y (drop (suc count) zs)));
+        }
+
   -- ---- what was written
 
   module _ {ys zs : List A} {n : ℕ} (w : Copied ys zs n) where
@@ -94,10 +126,9 @@ module _ {A : Type 0} where
     copied-within = omega (arith, copied-length, length-take n zs)
 
   module _ {ys xs zs : List A} {n : ℕ} (w : Written ys xs zs n) where
-    -- one element more behind what was written
-    pub written-more : {v y : A} → n < length xs → v ≡ y → Written (ys ++ (y ∷ [])) xs (set zs n v) (n + 1)
-    written-more {y = y} h q =
-        record { count = omega (arith, w .count, length-append ys (y ∷ [])); left = rw q (front-set zs xs ys n y (w .count) h (w .left)) }
+    -- what was written stands in front
+    pub written-copied : Copied ys zs n
+    written-copied = record { count = w .count; front = rw (w .count, w .left) (take-append-seam ys (drop (length ys) xs)) }
 
     -- another list behind it, over the tail that is lent from n on
     pub written-behind : {us ws : List A} {m : ℕ} → length ys ≤ length xs → Written us (take (length zs - n) (drop n zs)) ws m
@@ -112,13 +143,3 @@ module _ {A : Type 0} where
   module _ (xs : List A) (n : ℕ) where
     pub tail-room : {k : ℕ} → n + k ≤ length xs → k ≤ length (take (length xs - n) (drop n xs))
     tail-room h = omega (arith, ap length (tail-lent xs n), length-drop n xs)
-
-    pub tail-stored : {ys zs : List A} {k : ℕ} → Written ys (take (length xs - n) (drop n xs)) zs k
-        → putMid n (length xs - n) xs zs ≡ take n xs ++ (ys ++ drop (length ys) (drop n xs))
-    tail-stored {ys} {zs} w = tail-written xs zs ys n (length ys) (w .left)
-
-    -- it comes back as long as it was
-    pub tail-same : n ≤ length xs → (ys : List A) → length ys ≡ length (take (length xs - n) (drop n xs)) → length (putMid n (length xs - n) xs ys) ≡ length xs
-    tail-same h ys e =
-        let same : length ys ≡ length (drop n xs) = e ∙ ap length (tail-lent xs n) in
-        rw (tail-back xs ys n) (omega (arith, length-append (take n xs) ys, length-take-le n xs h, length-drop n xs))

@@ -1,11 +1,11 @@
 -- The three rules over tables that hold a model: clauses by number, and each test as the code comes to it, one law for each outcome.
 use mathlib.Core.Path.{_≡_, refl, sym, _∙_, ap}
 use mathlib.Core.Logic.{_⊎_, inl, inr, _≢_}
-use mathlib.Core.Bool.{Bool, true, false, cond, not, _&&_, _||_, true≢false}
+use mathlib.Core.Bool.{Bool, true, false, not, _&&_, _||_, true≢false}
 use mathlib.Core.List.{[], _∷_, _++_}
 use Prim.Native.Nat.{ℕ, zero, suc, _+_, _-_, _≤_, _<_}
 use native.Mathlib.Omega.{arith}
-use borrow.Author.Tests.{eq-eqb, ne-eqb}
+use borrow.Author.Tests.{eq-eqb, ne-eqb, lt-ltb, le-ltb}
 use lib.Dec.{eqb, ltb}
 use lib.IntN.{ℤ, pos, negsuc, negℤ, natAbs}
 use lib.ListN.{length, take, drop, length-take}
@@ -19,13 +19,15 @@ use Rattle.dqbf.specs.Record.{resolution, reduction, fork}
 use Rattle.dqbf.specs.Rules.{unknown, clauseAt, noRoom, resolvent, resolving, reads, reducing, forking}
 use Rattle.dqbf.specs.Run.{Examined, examine}
 use Rattle.dqbf.proofs.Laws.Tests.{or-no, or-left, or-right, no-or, eqb-same, ltb-no}
-use Rattle.dqbf.proofs.Laws.Clauses.{holds-in, pick-in, pick-short, without-in, without-short}
+use Rattle.dqbf.proofs.Laws.Clauses.{holds-in, pick-short}
 use Rattle.dqbf.proofs.Laws.Outcomes.{resolution-first, resolution-second, resolution-22, resolution-24, resolution-23, resolution-25, resolution-accepted, reduction-21, reduction-22, reduction-26, reduction-27, reduction-25, reduction-accepted, fork-21, fork-28, fork-29, fork-25, fork-accepted}
 use Rattle.tables.specs.Tables.{Tables, modelIn, stretch, entry}
 use Rattle.tables.specs.declared.State.{State}
-use Rattle.clauses.specs.Sets.{clauseSetIn, InUse}
-use Rattle.clauses.specs.Writing.{Copied}
-use Rattle.clauses.proofs.Laws.Sets.{model-clause-set, reads-single}
+use Rattle.dqbf.specs.Valid.{Ascending}
+use Rattle.clauses.specs.Places.{placeOf, butAt}
+use Rattle.clauses.proofs.Laws.Clauses.{place-holds, without-place}
+use Rattle.clause_sets.specs.Sets.{clauseSetIn, InUse}
+use Rattle.clause_sets.proofs.Laws.Sets.{model-clause-set, reads-single}
 use Rattle.tables.specs.Spread.{setRow}
 use Rattle.tables.proofs.Laws.Adding.{variable-count}
 use Rattle.tables.proofs.Laws.Held.{sets-is}
@@ -55,6 +57,15 @@ not-false false h = sym h
 and-false : (b : Bool) → (b && false) ≡ false
 and-false true = refl
 and-false false = refl
+
+-- ---- a literal by its place
+
+module _ (l : ℤ) (C : Clause) {i : ℕ} (isI : i ≡ placeOf l C) where
+  pub place-absent : length C ≤ i → not (holds l C) ≡ true
+  place-absent h = rw (place-holds l C, ← isI, le-ltb i (length C) h)
+
+  pub place-present : i < length C → not (holds l C) ≡ false
+  place-present h = rw (place-holds l C, ← isI, lt-ltb i (length C) h)
 
 -- ---- clauses by number
 
@@ -96,15 +107,19 @@ module _ (t : Tables) (s : State) (h : Holding t s) where
     pub ranged-clause : {C : Clause} → C ≡ stretch (entry (t .ends) (c - 1)) (entry (t .ends) c) (t .literals) → C ≡ clauseAt (modelIn t s) c
     ranged-clause e = e ∙ sym (clause-at t s (h .lent) (h .formed) c some low)
 
-    -- a clause has at most 32 literals, with or without one of them
+    -- a clause has at most 32 literals
     pub ranged-narrow : {C : Clause} → C ≡ stretch (entry (t .ends) (c - 1)) (entry (t .ends) c) (t .literals) → length C ≤ widthLimit
     ranged-narrow e =
         let from = entry (t .ends) (c - 1) in
         let to = entry (t .ends) c in
         rw e (omega (arith, length-take (to - from) (drop from (t .literals)), ranged .narrow))
 
-    pub reduced-narrow : (C : Clause) → C ≡ stretch (entry (t .ends) (c - 1)) (entry (t .ends) c) (t .literals) → (l : ℤ) → length (without l C) ≤ widthLimit
-    reduced-narrow C e l = omega (arith, without-short l C, ranged-narrow e)
+    -- without the literal at its place
+    pub clause-without : {C : Clause} → C ≡ stretch (entry (t .ends) (c - 1)) (entry (t .ends) c) (t .literals) → (l : ℤ) {i : ℕ} → i ≡ placeOf l C → i < length C
+        → butAt i C ≡ without l C
+    clause-without {C} e l isI within =
+        let ascends : Ascending C = rw (ranged-clause e) (valid-held t s (h .lent) (h .formed) .kept (clauseAt (modelIn t s) c) (clause-there t s (h .lent) (h .formed) c some low) .ascends) in
+        rw isI (without-place l C ascends (rw isI at within))
 
     -- a record's literal in this clause
     pub in-clause : {C : Clause} → C ≡ clauseAt (modelIn t s) c → (z : ℤ) {b : Bool} → b ≡ holds (literalIn z) C → holds z (clauseAt (modelIn t s) c) ≡ b
@@ -121,21 +136,12 @@ module _ (t : Tables) (s : State) (h : Holding t s) where
         let some = valid-held t s (h .lent) (h .formed) .kept (clauseAt (modelIn t s) c) there .over l q in
         (kind-some (modelIn t s) (natAbs l) some, literal-in-use t s (h .lent) (h .formed) (clauseAt (modelIn t s) c) there l q)
 
-    -- so that each literal of a part has a set
-    part-in-use : {C A : Clause} → C ≡ stretch (entry (t .ends) (c - 1)) (entry (t .ends) c) (t .literals) → ((l : ℤ) → l ∈ A → l ∈ C) → {n : ℕ} → n ≡ s .variables .0
-        → InUse (take n (t .sets)) A
-    part-in-use e within isN l q =
-        let r = clause-variable l (rw (ranged-clause e) at (within l q)) in
+    -- so that each literal has a set
+    pub clause-in-use : {C : Clause} → C ≡ stretch (entry (t .ends) (c - 1)) (entry (t .ends) c) (t .literals) → {n : ℕ} → n ≡ s .variables .0 → InUse (take n (t .sets)) C
+    clause-in-use e isN l q =
+        let r = clause-variable l (rw (ranged-clause e) at q) in
         let inside : s .variables .0 ≤ length (t .sets) = omega (arith, formed-is t s (h .formed) .counts .variables, long-is t (h .lent) .sets) in
         (r .0, rw (isN, length-take-le (s .variables .0) (t .sets) inside) (r .1))
-
-    pub rest-in-use : {C A : Clause} → C ≡ stretch (entry (t .ends) (c - 1)) (entry (t .ends) c) (t .literals) → (p : ℤ) → A ≡ without p C → {n : ℕ} → n ≡ s .variables .0
-        → InUse (take n (t .sets)) A
-    rest-in-use {C} e p isA isN = rw isA (part-in-use e (λ l q. without-in p l C q .0) isN)
-
-    pub picked-in-use : {C A : Clause} → C ≡ stretch (entry (t .ends) (c - 1)) (entry (t .ends) c) (t .literals) → (mask : ℕ) → A ≡ pick mask C → {n : ℕ} → n ≡ s .variables .0
-        → InUse (take n (t .sets)) A
-    picked-in-use {C} e mask isA isN = rw isA (part-in-use e (λ l q. pick-in mask C l q) isN)
 
 -- ---- resolution: what is left of its tests behind 22 is the resolvent's
 
@@ -209,10 +215,6 @@ module _ (t : Tables) (s : State) (h : Holding t s) (c d : ℕ) (z : ℤ) {f g :
             resolution-tested (modelIn t s) c d z (known-is t s h c told known) (known-is t s h d told′ known′) (rw (first-in, not-false a held, second-in, not-false b k))
             ∙ rw (isW, q, P-is, X-is, Y-is)
 
--- a copy is as narrow
-pub copied-narrow : {ys zs : Clause} {n k : ℕ} → Copied ys zs n → length ys ≤ k → length (take n zs) ≤ k
-copied-narrow w h = rw (w .front) h
-
 -- ---- universal reduction
 
 module _ (t : Tables) (s : State) (h : Holding t s) where
@@ -259,13 +261,13 @@ module _ (t : Tables) (s : State) (h : Holding t s) (c : ℕ) (z : ℤ) {f : Boo
         reduce-other b e =
             after-refused t s h U (refusal 26) (reduction-26 tables (modelIn t s) c z (known-is t s h c told known) there (rw kind-is (ne-eqb k 1 b))) e
 
-        module _ (universal : k ≡ 1) {w : Set} (isW : w ≡ entry (t .sets) (natAbs P)) {A : Clause} (isA : A ≡ without P X) {n : ℕ} (isN : n ≡ s .variables .0) {b : Bool}
-            {x : Set} (isSet : x ≡ clauseSetIn (take n (t .sets)) A) (isRead : b ≡ inside w x) where
+        module _ (universal : k ≡ 1) {w : Set} (isW : w ≡ entry (t .sets) (natAbs P)) {n : ℕ} (isN : n ≡ s .variables .0) {b : Bool} {x : Set}
+            (isSet : x ≡ clauseSetIn (take n (t .sets)) (without P X)) (isRead : b ≡ inside w x) where
           w-is : w ≡ setOf (modelIn t s) (natAbs z)
           w-is = isW ∙ set-told t s (h .lent) (h .formed) (natAbs P) reduce-used ∙ ap (λ (l : ℤ). setOf (modelIn t s) (natAbs l)) L-is
 
           x-is : x ≡ clauseSet (modelIn t s) (without z (clauseAt (modelIn t s) c))
-          x-is = isSet ∙ rw (isN, sets-are t s h, isA, L-is, C-is) (model-clause-set (modelIn t s) (without z (clauseAt (modelIn t s) c)))
+          x-is = isSet ∙ rw (isN, sets-are t s h, L-is, C-is) (model-clause-set (modelIn t s) (without z (clauseAt (modelIn t s) c)))
 
           -- the variable is universal, so that its set is one place
           one-place : (i : ℕ) × (setOf (modelIn t s) (natAbs z) ≡ single i)
@@ -282,7 +284,7 @@ module _ (t : Tables) (s : State) (h : Holding t s) (c : ℕ) (z : ℤ) {f : Boo
           reduce-read q e =
               after-refused t s h U (refusal 27) (reduction-27 tables (modelIn t s) c z (known-is t s h c told known) there (rw kind-is (eq-eqb k 1 universal)) (read-is ∙ q)) e
 
-          reduce-fitted : b ≡ false → U ≡ fitted (modelIn t s) (One (without P X))
+          pub reduce-fitted : b ≡ false → U ≡ fitted (modelIn t s) (One (without P X))
           unfolding fitted reducing
           reduce-fitted q = rw (L-is, C-is) (room (noRoom tables (modelIn t s) (reducing (clauseAt (modelIn t s) c) z)) refl)
             where
@@ -293,9 +295,6 @@ module _ (t : Tables) (s : State) (h : Holding t s) (c : ℕ) (z : ℤ) {f : Boo
                   → U ≡ fitted (modelIn t s) (One (without z (clauseAt (modelIn t s) c)))
               room true e = rw e (reduction-25 tables (modelIn t s) c z (known-is t s h c told known) there u (read-is ∙ q) e)
               room false e = rw e (reduction-accepted tables (modelIn t s) c z (known-is t s h c told known) there u (read-is ∙ q) e)
-
-          pub reduce-added : b ≡ false → U ≡ fitted (modelIn t s) (One A)
-          reduce-added q = reduce-fitted q ∙ ap (λ (K : Clause). fitted (modelIn t s) (One K)) (sym isA)
 
 -- ---- fork
 
@@ -324,13 +323,13 @@ module _ (t : Tables) (s : State) (h : Holding t s) (c left right : ℕ) {f : Bo
         go (inl e) = rw e (ranged-narrow t s h c told known isX)
         go (inr q) = omega (arith, ranged-narrow t s h c told known isX)
 
-    module _ (whole : not a ≡ false) {A B : Clause} (isA : A ≡ pick left X) (isB : B ≡ pick right X) {n : ℕ} (isN : n ≡ s .variables .0) {x y : Set}
-        (isLeft : x ≡ clauseSetIn (take n (t .sets)) A) (isRight : y ≡ clauseSetIn (take n (t .sets)) B) {p q : Bool} (lies : p ≡ inside x y) (around : q ≡ inside y x) where
+    module _ (whole : not a ≡ false) {n : ℕ} (isN : n ≡ s .variables .0) {x y : Set} (isLeft : x ≡ clauseSetIn (take n (t .sets)) (pick left X))
+        (isRight : y ≡ clauseSetIn (take n (t .sets)) (pick right X)) {p q : Bool} (lies : p ≡ inside x y) (around : q ≡ inside y x) where
       left-set : clauseSet (modelIn t s) (pick left (clauseAt (modelIn t s) c)) ≡ x
-      left-set = sym (isLeft ∙ rw (isN, sets-are t s h, isA, X-clause) (model-clause-set (modelIn t s) (pick left (clauseAt (modelIn t s) c))))
+      left-set = sym (isLeft ∙ rw (isN, sets-are t s h, X-clause) (model-clause-set (modelIn t s) (pick left (clauseAt (modelIn t s) c))))
 
       right-set : clauseSet (modelIn t s) (pick right (clauseAt (modelIn t s) c)) ≡ y
-      right-set = sym (isRight ∙ rw (isN, sets-are t s h, isB, X-clause) (model-clause-set (modelIn t s) (pick right (clauseAt (modelIn t s) c))))
+      right-set = sym (isRight ∙ rw (isN, sets-are t s h, X-clause) (model-clause-set (modelIn t s) (pick right (clauseAt (modelIn t s) c))))
 
       compared : (inside (clauseSet (modelIn t s) (pick left (clauseAt (modelIn t s) c))) (clauseSet (modelIn t s) (pick right (clauseAt (modelIn t s) c)))
           || inside (clauseSet (modelIn t s) (pick right (clauseAt (modelIn t s) c))) (clauseSet (modelIn t s) (pick left (clauseAt (modelIn t s) c)))) ≡ (p || q)
@@ -349,7 +348,7 @@ module _ (t : Tables) (s : State) (h : Holding t s) (c left right : ℕ) {f : Bo
       pub fork-around : {r : Stepped} → q ≡ true → r ≡ record { state = s; answer = Refused 29 } → After t s K t r
       fork-around b e = comparable (or-right p q b) e
 
-      fork-fitted : p ≡ false → q ≡ false → {w : Set} → w ≡ common x y
+      pub fork-fitted : p ≡ false → q ≡ false → {w : Set} → w ≡ common x y
           → K ≡ fitted (modelIn t s) (Two (pick left X ++ (pos (suc (s .variables .0)) ∷ [])) (pick right X ++ (negsuc (s .variables .0) ∷ [])) w)
       unfolding fitted forking
       fork-fitted u v isW =
@@ -367,7 +366,3 @@ module _ (t : Tables) (s : State) (h : Holding t s) (c left right : ℕ) {f : Bo
               → K ≡ fitted (modelIn t s) (forking (modelIn t s) (pick left (clauseAt (modelIn t s) c)) (pick right (clauseAt (modelIn t s) c)))
           room true e = rw e (fork-25 tables (modelIn t s) c left right (known-is t s h c told known) covered-whole apart e)
           room false e = rw e (fork-accepted tables (modelIn t s) c left right (known-is t s h c told known) covered-whole apart e)
-
-      pub fork-added : p ≡ false → q ≡ false → {w : Set} → w ≡ common x y
-          → K ≡ fitted (modelIn t s) (Two (A ++ (pos (suc (s .variables .0)) ∷ [])) (B ++ (negsuc (s .variables .0) ∷ [])) w)
-      fork-added u v isW = rw (isA, isB) (fork-fitted u v isW)

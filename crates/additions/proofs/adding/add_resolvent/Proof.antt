@@ -1,59 +1,96 @@
 use borrow.Author.Needs.{needs}
-use Rattle.additions.proofs.Laws.Adding.{resolvent-wide, resolvent-clashes, resolvent-added}
+use mathlib.Core.Path.{refl}
+use native.Mathlib.Omega.{arith}
+use Rattle.dqbf.specs.Literal.{join}
+use Rattle.tables.proofs.Laws.Formed.{formed-is, long-is}
+use Rattle.additions.proofs.Laws.Adding.{zero-tail, resolvent-refused, resolvent-fitted, resolvent-fits, resolvent-stored, one-asked, one-added}
 use Rattle.additions.proofs.adding.add_resolvent.Statement.{statement}
 use Rattle.additions.proofs.adding.add_resolvent.Tie as tie
 use Rattle.additions.proofs.adding.add_resolvent.Reads as reads
 use Rattle.additions.proofs.adding.add_resolvent.Lts as lts
-use Rattle.additions.proofs.adding.add_one.Reads as add-one-reads
 use Rattle.additions.proofs.adding.refused.Reads as refused-reads
-use Rattle.clauses.proofs.tests.clashes.Reads as clashes-reads
+use Rattle.additions.proofs.adding.write_resolvent.Reads as write-resolvent-reads
+use Rattle.tables.proofs.adding.add_clause.Reads as add-clause-reads
 
--- src/adding.rt:71:9
+-- src/adding.rt:83:16
+cast-last : tie.Need-cast-last
+cast-last c = search needs
+
+-- src/adding.rt:84:37
+mul-write-resolvent : tie.Need-mul-write-resolvent
+mul-write-resolvent c = search needs
+
+-- src/adding.rt:84:37
+sub-write-resolvent : tie.Need-sub-write-resolvent
+sub-write-resolvent c = omega (arith, formed-is _ _ (c .before .before .before .before .pre .formed) .counts .literals)
+
+-- src/adding.rt:84:37
+part-write-resolvent-start : tie.Need-part-write-resolvent-start
+part-write-resolvent-start c = omega (arith, formed-is _ _ (c .before .before .before .before .pre .formed) .counts .literals)
+
+-- src/adding.rt:84:37
+part-write-resolvent-end : tie.Need-part-write-resolvent-end
+part-write-resolvent-end c = omega (arith, long-is _ (c .before .before .before .before .pre .lent) .literals)
+
+-- src/adding.rt:84:9
+write-resolvent-requires : tie.Need-write-resolvent-requires
+write-resolvent-requires c κs = zero-tail _ _ (c .before .before .before .before .before .pre)
+
+-- src/adding.rt:86:9
 refused-requires : tie.Need-refused-requires
 refused-requires c κs = search needs
 
--- src/adding.rt:71:9
-returns : tie.Need-returns
-returns c = resolvent-wide _ _ (c .before .before .before .before .before .pre) (c .before .before .before .before .before .args .clause .now) (c .before .if1 .taken) (c .refused .ensures)
-
--- src/adding.rt:73:8
-clashes-requires : tie.Need-clashes-requires
-clashes-requires c κs = search needs
-
--- src/adding.rt:74:9
-refused-requires-2 : tie.Need-refused-requires-2
-refused-requires-2 c κs = search needs
-
--- src/adding.rt:74:9
-returns-2 : tie.Need-returns-2
-returns-2 c = resolvent-clashes _ _ (c .before .before .before .before .before .before .before .pre) (c .before .before .before .before .before .before .before .args .clause .now) (c .before .before .before .if1 .left) (c .before .before .clashes .ensures) (c .before .if2 .taken) (c .refused2 .ensures)
-
--- src/adding.rt:76:5
-add-one-requires : tie.Need-add-one-requires
-add-one-requires c κs = (c .before .before .before .before .before .before .before .before .pre, c .before .before .before .before .if1 .left)
-
--- src/adding.rt:57:1
+-- src/adding.rt:86:9
 same-length : tie.Need-same-length
 same-length c = search needs
 
--- src/adding.rt:57:1
+-- src/adding.rt:86:9
+returns : tie.Need-returns
+returns c = resolvent-refused _ _ (c .before .before .before .before .before .before .before .before .before .before .pre) (join (c .before .before .before .before .before .before .before .before .before .before .args .first .now) (c .before .before .before .before .before .before .before .before .before .before .args .second .now)) (c .before .before .before .before .write-resolvent .ensures .number) (c .before .before .before .before .write-resolvent .ensures .left) (c .before .if1 .taken) (c .refused .ensures)
+
+-- src/adding.rt:88:48
+cast-add-clause : tie.Need-cast-add-clause
+cast-add-clause c =
+    let fits = resolvent-fits _ _ (c .before .before .before .before .before .before .before .before .before .before .before .pre) (join (c .before .before .before .before .before .before .before .before .before .before .before .args .first .now) (c .before .before .before .before .before .before .before .before .before .before .before .args .second .now)) (c .before .before .before .before .before .write-resolvent .ensures .number) (c .before .before .if1 .left) in
+    omega (arith, fits .0, c .before .before .before .before .before .write-resolvent .ensures .count)
+
+-- src/adding.rt:88:9
+add-clause-requires : tie.Need-add-clause-requires
+add-clause-requires c κs =
+    let fits = resolvent-fits _ _ (c .before .before .before .before .before .before .before .before .before .before .before .pre) (join (c .before .before .before .before .before .before .before .before .before .before .before .args .first .now) (c .before .before .before .before .before .before .before .before .before .before .before .args .second .now)) (c .before .before .before .before .before .write-resolvent .ensures .number) (c .before .before .if1 .left) in
+    one-asked _ _ (c .before .before .before .before .before .before .before .before .before .before .before .pre) _ (join (c .before .before .before .before .before .before .before .before .before .before .before .args .first .now) (c .before .before .before .before .before .before .before .before .before .before .before .args .second .now)) refl refl refl (fits .1) (c .before .before .before .before .before .write-resolvent .ensures .count)
+
+-- src/adding.rt:69:1
 same-length-2 : tie.Need-same-length-2
 same-length-2 c = search needs
 
--- src/adding.rt:57:1
-returns-3 : tie.Need-returns-3
-returns-3 c = resolvent-added _ _ (c .before .before .before .before .before .before .before .before .before .before .before .before .pre) (c .before .before .before .before .before .before .before .before .before .before .before .before .args .clause .now) (c .before .before .before .before .before .before .before .before .if1 .left) (c .before .before .before .before .before .before .before .clashes .ensures) (c .before .before .before .before .before .before .if2 .left) (c .before .before .before .add-one .ensures)
+-- src/adding.rt:69:1
+same-length-3 : tie.Need-same-length-3
+same-length-3 c = search needs
+
+-- src/adding.rt:69:1
+returns-2 : tie.Need-returns-2
+returns-2 c =
+    let fits = resolvent-fits _ _ (c .before .before .before .before .before .before .before .before .before .before .before .before .before .before .pre) (join (c .before .before .before .before .before .before .before .before .before .before .before .before .before .before .args .first .now) (c .before .before .before .before .before .before .before .before .before .before .before .before .before .before .args .second .now)) (c .before .before .before .before .before .before .before .before .write-resolvent .ensures .number) (c .before .before .before .before .before .if1 .left) in
+    let is = resolvent-fitted _ _ (c .before .before .before .before .before .before .before .before .before .before .before .before .before .before .pre) (join (c .before .before .before .before .before .before .before .before .before .before .before .before .before .before .args .first .now) (c .before .before .before .before .before .before .before .before .before .before .before .before .before .before .args .second .now)) (c .before .before .before .before .before .before .before .before .write-resolvent .ensures .number) (c .before .before .before .before .before .if1 .left) in
+    let literals = resolvent-stored _ _ (c .before .before .before .before .before .before .before .before .before .before .before .before .before .before .pre) (join (c .before .before .before .before .before .before .before .before .before .before .before .before .before .before .args .first .now) (c .before .before .before .before .before .before .before .before .before .before .before .before .before .before .args .second .now)) (c .before .before .before .before .before .before .before .before .write-resolvent .ensures .number) (c .before .before .before .before .before .before .before .before .write-resolvent .ensures .left) (c .before .before .before .before .before .if1 .left) (fits .2) in
+    one-added _ _ (c .before .before .before .before .before .before .before .before .before .before .before .before .before .before .pre) _ (join (c .before .before .before .before .before .before .before .before .before .before .before .before .before .before .args .first .now) (c .before .before .before .before .before .before .before .before .before .before .before .before .before .before .args .second .now)) is refl refl (fits .1) (c .before .before .before .before .before .before .before .before .write-resolvent .ensures .count) literals (c .before .before .add-clause .ensures .1) (c .before .before .add-clause .ensures .0)
 
 pub add-resolvent-spec : {M : Type 1} → statement M
 add-resolvent-spec =
     tie.close
     (tie.spec
+    cast-last
+    mul-write-resolvent
+    sub-write-resolvent
+    part-write-resolvent-start
+    part-write-resolvent-end
+    write-resolvent-requires
     refused-requires
-    returns
-    clashes-requires
-    refused-requires-2
-    returns-2
-    add-one-requires
     same-length
+    returns
+    cast-add-clause
+    add-clause-requires
     same-length-2
-    returns-3)
+    same-length-3
+    returns-2)

@@ -1,22 +1,23 @@
 use borrow.Author.Needs.{needs}
-use mir.Facts.{toZ-ofZ}
+use Rattle.clauses.proofs.Laws.Writing.{written-copied}
 use Rattle.clauses.proofs.held.hold_without.Statement.{statement}
 use Rattle.clauses.proofs.held.hold_without.Tie as tie
 use Rattle.clauses.proofs.held.hold_without.Reads as reads
 use Rattle.clauses.proofs.held.hold_without.Lts as lts
-use Rattle.clauses.proofs.copying.copy_without.Reads as copy-without-reads
+use Rattle.clauses.proofs.writing.write_without.Reads as write-without-reads
 
--- src/held.rt:22:39
-slice-aggregate-copy-without : tie.Need-slice-aggregate-copy-without
-slice-aggregate-copy-without c = search needs
+-- src/held.rt:32:40
+slice-aggregate-write-without : tie.Need-slice-aggregate-write-without
+slice-aggregate-write-without c = search needs
 
--- src/held.rt:22:9
-copy-without-requires : tie.Need-copy-without-requires
-copy-without-requires c κs = search needs
+-- src/held.rt:32:9
+write-without-requires : tie.Need-write-without-requires
+write-without-requires c κs = search needs
 
--- src/held.rt:17:1
+-- src/held.rt:27:1
 returns : tie.Need-returns
-returns c = record { copied = rw (toZ-ofZ (c .before .before .before .fits .literal)) at (c .before .copy-without .ensures); whole = c .before .copy-without .kept .0 }
+returns c = record { copied = written-copied (c .before .write-without .ensures); whole = c .before .write-without .kept .0 }
 
 pub hold-without-spec : {M : Type 1} → statement M
-hold-without-spec = tie.close (tie.spec slice-aggregate-copy-without copy-without-requires returns)
+hold-without-spec =
+    tie.close (tie.spec slice-aggregate-write-without write-without-requires returns)

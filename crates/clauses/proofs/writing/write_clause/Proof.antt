@@ -13,10 +13,10 @@ use Rattle.clauses.proofs.writing.write_clause.Reads as reads
 use Rattle.clauses.proofs.writing.write_clause.Lts as lts
 
 abbrev Inv-loop : tie.InvT-loop
-Inv-loop tail₀ clause count₀ tail count = (count ≤ length clause) × Writing clause tail₀ tail count (drop count clause)
+Inv-loop tail₀ clause place₀ tail place = (place ≤ length clause) × Writing clause tail₀ tail place (drop place clause)
 
 abbrev μ-loop : tie.MeasureT-loop
-μ-loop tail₀ clause count₀ tail count = length clause - count
+μ-loop tail₀ clause place₀ tail place = length clause - place
 
 -- src/writing.rt:18:5
 loop-holds : tie.Need-loop-holds Inv-loop μ-loop
@@ -39,8 +39,8 @@ slice-set-from-l : tie.Need-slice-set-from-l Inv-loop μ-loop
 slice-set-from-l c = omega (arith, c .before .before .loop .inv .1 .copied .same)
 
 -- src/writing.rt:21:9
-add-count : tie.Need-add-count Inv-loop μ-loop
-add-count c = search needs
+add-place : tie.Need-add-place Inv-loop μ-loop
+add-place c = search needs
 
 -- src/writing.rt:18:5
 loop-less : tie.Need-loop-less Inv-loop μ-loop
@@ -48,7 +48,7 @@ loop-less c = search needs
 
 -- src/writing.rt:18:5
 loop-again : tie.Need-loop-again Inv-loop μ-loop
-loop-again c = (search needs, writing-more (c .before .before .loop .inv .1) (omega (arith, c .before .before .loop .inv .1 .copied .same)) (list-front (c .before .before .before .args .clause .now) (c .before .before .loop .count) (pos 0) (omega arith)) (kept16 (c .l .given)))
+loop-again c = (search needs, writing-more (c .before .before .loop .inv .1) (omega (arith, c .before .before .loop .inv .1 .copied .same)) (list-front (c .before .before .before .args .clause .now) (c .before .before .loop .place) (pos 0) (omega arith)) (kept16 (c .l .given)))
 
 -- src/writing.rt:13:1
 same-length : tie.Need-same-length Inv-loop μ-loop
@@ -56,7 +56,7 @@ same-length c = c .before .loop .inv .1 .copied .same
 
 -- src/writing.rt:13:1
 returns : tie.Need-returns Inv-loop μ-loop
-returns c = writing-done (c .before .loop .inv .1) (list-end (c .before .before .args .clause .now) (c .before .loop .count) (omega arith))
+returns c = writing-done (c .before .loop .inv .1) (list-end (c .before .before .args .clause .now) (c .before .loop .place) (omega arith))
 
 pub write-clause-spec : {M : Type 1} → statement M
 write-clause-spec =
@@ -69,7 +69,7 @@ write-clause-spec =
     shared-slice-copy-out-l
     mul-l-2
     slice-set-from-l
-    add-count
+    add-place
     loop-less
     loop-again
     same-length

@@ -1,19 +1,20 @@
 use borrow.Author.Needs.{needs}
-use mathlib.Core.Path.{refl}
+use mathlib.Core.Path.{refl, _∙_}
 use native.Mathlib.Omega.{arith}
 use mir.Facts.{toZ-ofZ}
+use Rattle.dqbf.specs.Literal.{join}
 use Rattle.dqbf.proofs.Laws.Signed.{kept16}
 use Rattle.clauses.proofs.Laws.Writing.{copied-length, copied-within}
 use Rattle.rules.proofs.Laws.Pivots.{literal-small}
-use Rattle.rules.proofs.Laws.Rules.{ranged, ranged-narrow, resolve-first, resolve-second, resolve-pivot, resolve-complement, resolve-tested}
+use Rattle.rules.proofs.Laws.Rules.{ranged, ranged-narrow, place-absent, place-present, clause-without, resolve-first, resolve-second, resolve-pivot, resolve-complement, resolve-tested}
 use Rattle.rules.proofs.rules.resolve.Statement.{statement}
 use Rattle.rules.proofs.rules.resolve.Tie as tie
 use Rattle.rules.proofs.rules.resolve.Reads as reads
 use Rattle.rules.proofs.rules.resolve.Lts as lts
 use Rattle.additions.proofs.adding.add_resolvent.Reads as add-resolvent-reads
 use Rattle.additions.proofs.adding.refused.Reads as refused-reads
-use Rattle.clauses.proofs.resolvent.hold_resolvent.Reads as hold-resolvent-reads
-use Rattle.clauses.proofs.tests.holds.Reads as holds-reads
+use Rattle.clauses.proofs.held.hold_without.Reads as hold-without-reads
+use Rattle.clauses.proofs.tests.place_of.Reads as place-of-reads
 use Rattle.dqbf.proofs.literal.narrowed.Reads as narrowed-reads
 use Rattle.dqbf.proofs.literal.negated.Reads as negated-reads
 use Rattle.rules.proofs.clause.clause_at.Reads as clause-at-reads
@@ -49,7 +50,9 @@ narrowed-requires c κs = search needs
 
 -- src/rules.rt:46:9
 negated-requires : tie.Need-negated-requires
-negated-requires c κs = let p = rw (toZ-ofZ (c .before .before .before .before .before .before .before .before .fits .pivot)) at (c .narrowed .ensures) in rw (kept16 {z = c .narrowed .result} (c .narrowed .ok), p) (let b = literal-small (c .before .before .before .before .before .before .before .before .args .pivot) in omega arith)
+negated-requires c κs =
+    let p = rw (toZ-ofZ (c .before .before .before .before .before .before .before .before .fits .pivot)) at (c .narrowed .ensures) in
+    rw (kept16 {z = c .narrowed .result} (c .narrowed .ok), p) (let b = literal-small (c .before .before .before .before .before .before .before .before .args .pivot) in omega arith)
 
 -- src/rules.rt:47:9
 clause-at-requires : tie.Need-clause-at-requires
@@ -60,69 +63,81 @@ clause-at-requires-2 : tie.Need-clause-at-requires-2
 clause-at-requires-2 c κs = ranged _ _ (c .before .before .before .before .before .before .before .before .before .before .before .before .before .pre) _ (c .before .before .before .before .before .before .before .is-unknown2 .ensures) (c .before .before .before .before .before .before .if2 .left)
 
 -- src/rules.rt:49:9
-holds-requires : tie.Need-holds-requires
-holds-requires c κs = search needs
+place-of-requires : tie.Need-place-of-requires
+place-of-requires c κs = search needs
 
--- src/rules.rt:50:9
+-- src/rules.rt:51:9
 refused-requires-3 : tie.Need-refused-requires-3
 refused-requires-3 c κs = search needs
 
--- src/rules.rt:50:9
+-- src/rules.rt:51:9
 same-length : tie.Need-same-length
 same-length c = search needs
 
--- src/rules.rt:50:9
+-- src/rules.rt:51:9
 same-length-2 : tie.Need-same-length-2
 same-length-2 c = search needs
 
--- src/rules.rt:50:9
+-- src/rules.rt:51:9
 returns-3 : tie.Need-returns-3
 returns-3 c =
     let p = rw (toZ-ofZ (c .before .before .before .before .before .before .before .before .before .before .before .before .before .before .before .before .before .fits .pivot)) at (c .before .before .before .before .before .before .before .before .before .narrowed .ensures) in
     let q = rw (kept16 {z = c .before .before .before .before .before .before .before .before .before .narrowed .result} (c .before .before .before .before .before .before .before .before .before .narrowed .ok)) at (c .before .before .before .before .before .before .before .before .negated .ensures) in
-    let a = rw (kept16 {z = c .before .before .before .before .before .before .before .before .before .narrowed .result} (c .before .before .before .before .before .before .before .before .before .narrowed .ok)) at (c .before .before .holds .ensures) in
-    resolve-pivot _ _ (c .before .before .before .before .before .before .before .before .before .before .before .before .before .before .before .before .before .pre) _ _ _ (c .before .before .before .before .before .before .before .before .before .before .before .before .before .is-unknown .ensures) (c .before .before .before .before .before .before .before .before .before .before .before .is-unknown2 .ensures) (c .before .before .before .before .before .before .before .before .before .before .before .before .if1 .left) (c .before .before .before .before .before .before .before .before .before .before .if2 .left) (c .before .before .before .before .before .clause-at .ensures) (c .before .before .before .clause-at2 .ensures) p q a (c .before .if3 .taken) (c .refused3 .ensures)
-
--- src/rules.rt:52:9
-holds-requires-2 : tie.Need-holds-requires-2
-holds-requires-2 c κs = search needs
+    let i = rw (kept16 {z = c .before .before .before .before .before .before .before .before .before .narrowed .result} (c .before .before .before .before .before .before .before .before .before .narrowed .ok)) at (c .before .before .place-of .ensures) in
+    resolve-pivot _ _ (c .before .before .before .before .before .before .before .before .before .before .before .before .before .before .before .before .before .pre) _ _ _ (c .before .before .before .before .before .before .before .before .before .before .before .before .before .is-unknown .ensures) (c .before .before .before .before .before .before .before .before .before .before .before .is-unknown2 .ensures) (c .before .before .before .before .before .before .before .before .before .before .before .before .if1 .left) (c .before .before .before .before .before .before .before .before .before .before .if2 .left) (c .before .before .before .before .before .clause-at .ensures) (c .before .before .before .clause-at2 .ensures) p q refl (place-absent _ _ i (c .before .if3 .taken)) (c .refused3 .ensures)
 
 -- src/rules.rt:53:9
+place-of-requires-2 : tie.Need-place-of-requires-2
+place-of-requires-2 c κs = search needs
+
+-- src/rules.rt:55:9
 refused-requires-4 : tie.Need-refused-requires-4
 refused-requires-4 c κs = search needs
 
--- src/rules.rt:53:9
+-- src/rules.rt:55:9
 same-length-3 : tie.Need-same-length-3
 same-length-3 c = search needs
 
--- src/rules.rt:53:9
+-- src/rules.rt:55:9
 same-length-4 : tie.Need-same-length-4
 same-length-4 c = search needs
 
--- src/rules.rt:53:9
+-- src/rules.rt:55:9
 returns-4 : tie.Need-returns-4
 returns-4 c =
     let p = rw (toZ-ofZ (c .before .before .before .before .before .before .before .before .before .before .before .before .before .before .before .before .before .before .before .fits .pivot)) at (c .before .before .before .before .before .before .before .before .before .before .before .narrowed .ensures) in
     let q = rw (kept16 {z = c .before .before .before .before .before .before .before .before .before .before .before .narrowed .result} (c .before .before .before .before .before .before .before .before .before .before .before .narrowed .ok)) at (c .before .before .before .before .before .before .before .before .before .before .negated .ensures) in
-    let a = rw (kept16 {z = c .before .before .before .before .before .before .before .before .before .before .before .narrowed .result} (c .before .before .before .before .before .before .before .before .before .before .before .narrowed .ok)) at (c .before .before .before .before .holds .ensures) in
-    let b = rw (kept16 {z = c .before .before .before .before .before .before .before .before .before .before .negated .result} (c .before .before .before .before .before .before .before .before .before .before .negated .ok)) at (c .before .before .holds2 .ensures) in
-    resolve-complement _ _ (c .before .before .before .before .before .before .before .before .before .before .before .before .before .before .before .before .before .before .before .pre) _ _ _ (c .before .before .before .before .before .before .before .before .before .before .before .before .before .before .before .is-unknown .ensures) (c .before .before .before .before .before .before .before .before .before .before .before .before .before .is-unknown2 .ensures) (c .before .before .before .before .before .before .before .before .before .before .before .before .before .before .if1 .left) (c .before .before .before .before .before .before .before .before .before .before .before .before .if2 .left) (c .before .before .before .before .before .before .before .clause-at .ensures) (c .before .before .before .before .before .clause-at2 .ensures) p q a (c .before .before .before .if3 .left) b (c .before .if4 .taken) (c .refused4 .ensures)
+    let i = rw (kept16 {z = c .before .before .before .before .before .before .before .before .before .before .before .narrowed .result} (c .before .before .before .before .before .before .before .before .before .before .before .narrowed .ok)) at (c .before .before .before .before .place-of .ensures) in
+    let j = rw (kept16 {z = c .before .before .before .before .before .before .before .before .before .before .negated .result} (c .before .before .before .before .before .before .before .before .before .before .negated .ok)) at (c .before .before .place-of2 .ensures) in
+    resolve-complement _ _ (c .before .before .before .before .before .before .before .before .before .before .before .before .before .before .before .before .before .before .before .pre) _ _ _ (c .before .before .before .before .before .before .before .before .before .before .before .before .before .before .before .is-unknown .ensures) (c .before .before .before .before .before .before .before .before .before .before .before .before .before .is-unknown2 .ensures) (c .before .before .before .before .before .before .before .before .before .before .before .before .before .before .if1 .left) (c .before .before .before .before .before .before .before .before .before .before .before .before .if2 .left) (c .before .before .before .before .before .before .before .clause-at .ensures) (c .before .before .before .before .before .clause-at2 .ensures) p q refl (place-present _ _ i (c .before .before .before .if3 .left)) refl (place-absent _ _ j (c .before .if4 .taken)) (c .refused4 .ensures)
 
--- src/rules.rt:55:9
-hold-resolvent-requires : tie.Need-hold-resolvent-requires
-hold-resolvent-requires c κs = (ranged-narrow _ _ (c .before .before .before .before .before .before .before .before .before .before .before .before .before .before .before .before .before .before .pre) _ (c .before .before .before .before .before .before .before .before .before .before .before .before .before .before .is-unknown .ensures) (c .before .before .before .before .before .before .before .before .before .before .before .before .before .if1 .left) (c .before .before .before .before .before .before .clause-at .ensures), ranged-narrow _ _ (c .before .before .before .before .before .before .before .before .before .before .before .before .before .before .before .before .before .before .pre) _ (c .before .before .before .before .before .before .before .before .before .before .before .before .is-unknown2 .ensures) (c .before .before .before .before .before .before .before .before .before .before .before .if2 .left) (c .before .before .before .before .clause-at2 .ensures))
+-- src/rules.rt:57:9
+hold-without-requires : tie.Need-hold-without-requires
+hold-without-requires c κs = (ranged-narrow _ _ (c .before .before .before .before .before .before .before .before .before .before .before .before .before .before .before .before .before .before .pre) _ (c .before .before .before .before .before .before .before .before .before .before .before .before .before .before .is-unknown .ensures) (c .before .before .before .before .before .before .before .before .before .before .before .before .before .if1 .left) (c .before .before .before .before .before .before .clause-at .ensures), c .before .before .if3 .left)
 
--- src/rules.rt:58:27
-array-share-prefix-whole : tie.Need-array-share-prefix-whole
-array-share-prefix-whole c = copied-within (c .before .hold-resolvent .ensures .copied)
+-- src/rules.rt:58:9
+hold-without-requires-2 : tie.Need-hold-without-requires-2
+hold-without-requires-2 c κs = (ranged-narrow _ _ (c .before .before .before .before .before .before .before .before .before .before .before .before .before .before .before .before .before .before .before .pre) _ (c .before .before .before .before .before .before .before .before .before .before .before .before .before .is-unknown2 .ensures) (c .before .before .before .before .before .before .before .before .before .before .before .before .if2 .left) (c .before .before .before .before .before .clause-at2 .ensures), c .before .if4 .left)
 
--- src/rules.rt:58:27
+-- src/rules.rt:63:27
+array-share-prefix-a : tie.Need-array-share-prefix-a
+array-share-prefix-a c = copied-within (c .before .before .before .hold-without .ensures .copied)
+
+-- src/rules.rt:63:27
 slice-aggregate-add-resolvent : tie.Need-slice-aggregate-add-resolvent
-slice-aggregate-add-resolvent c = copied-length (c .before .before .hold-resolvent .ensures .copied)
+slice-aggregate-add-resolvent c = copied-length (c .before .before .before .before .hold-without .ensures .copied)
 
--- src/rules.rt:58:5
+-- src/rules.rt:63:36
+array-share-prefix-b : tie.Need-array-share-prefix-b
+array-share-prefix-b c = copied-within (c .before .before .before .hold-without2 .ensures .copied)
+
+-- src/rules.rt:63:36
+slice-aggregate-add-resolvent-2 : tie.Need-slice-aggregate-add-resolvent-2
+slice-aggregate-add-resolvent-2 c = copied-length (c .before .before .before .before .hold-without2 .ensures .copied)
+
+-- src/rules.rt:63:5
 add-resolvent-requires : tie.Need-add-resolvent-requires
-add-resolvent-requires c κs = search needs
+add-resolvent-requires c κs = c .before .before .before .before .before .before .before .before .before .before .before .before .before .before .before .before .before .before .before .before .before .before .before .before .before .before .pre
 
 -- src/rules.rt:23:1
 same-length-5 : tie.Need-same-length-5
@@ -135,12 +150,14 @@ same-length-6 c = search needs
 -- src/rules.rt:23:1
 returns-5 : tie.Need-returns-5
 returns-5 c =
-    let p = rw (toZ-ofZ (c .before .before .before .before .before .before .before .before .before .before .before .before .before .before .before .before .before .before .before .before .before .before .before .before .before .before .before .fits .pivot)) at (c .before .before .before .before .before .before .before .before .before .before .before .before .before .before .before .before .before .before .before .narrowed .ensures) in
-    let q = rw (kept16 {z = c .before .before .before .before .before .before .before .before .before .before .before .before .before .before .before .before .before .before .before .narrowed .result} (c .before .before .before .before .before .before .before .before .before .before .before .before .before .before .before .before .before .before .before .narrowed .ok)) at (c .before .before .before .before .before .before .before .before .before .before .before .before .before .before .before .before .before .before .negated .ensures) in
-    let a = rw (kept16 {z = c .before .before .before .before .before .before .before .before .before .before .before .before .before .before .before .before .before .before .before .narrowed .result} (c .before .before .before .before .before .before .before .before .before .before .before .before .before .before .before .before .before .before .before .narrowed .ok)) at (c .before .before .before .before .before .before .before .before .before .before .before .before .holds .ensures) in
-    let b = rw (kept16 {z = c .before .before .before .before .before .before .before .before .before .before .before .before .before .before .before .before .before .before .negated .result} (c .before .before .before .before .before .before .before .before .before .before .before .before .before .before .before .before .before .before .negated .ok)) at (c .before .before .before .before .before .before .before .before .before .before .holds2 .ensures) in
-    let w = (rw (kept16 {z = c .before .before .before .before .before .before .before .before .before .before .before .before .before .before .before .before .before .before .before .narrowed .result} (c .before .before .before .before .before .before .before .before .before .before .before .before .before .before .before .before .before .before .before .narrowed .ok), kept16 {z = c .before .before .before .before .before .before .before .before .before .before .before .before .before .before .before .before .before .before .negated .result} (c .before .before .before .before .before .before .before .before .before .before .before .before .before .before .before .before .before .before .negated .ok)) at (c .before .before .before .before .before .before .before .before .hold-resolvent .ensures .copied)) .front in
-    rw (resolve-tested _ _ (c .before .before .before .before .before .before .before .before .before .before .before .before .before .before .before .before .before .before .before .before .before .before .before .before .before .before .before .pre) _ _ _ (c .before .before .before .before .before .before .before .before .before .before .before .before .before .before .before .before .before .before .before .before .before .before .before .is-unknown .ensures) (c .before .before .before .before .before .before .before .before .before .before .before .before .before .before .before .before .before .before .before .before .before .is-unknown2 .ensures) (c .before .before .before .before .before .before .before .before .before .before .before .before .before .before .before .before .before .before .before .before .before .before .if1 .left) (c .before .before .before .before .before .before .before .before .before .before .before .before .before .before .before .before .before .before .before .before .if2 .left) (c .before .before .before .before .before .before .before .before .before .before .before .before .before .before .before .clause-at .ensures) (c .before .before .before .before .before .before .before .before .before .before .before .before .before .clause-at2 .ensures) p q a (c .before .before .before .before .before .before .before .before .before .before .before .if3 .left) b (c .before .before .before .before .before .before .before .before .before .if4 .left) w) (c .before .before .before .add-resolvent .ensures)
+    let p = rw (toZ-ofZ (c .before .before .before .before .before .before .before .before .before .before .before .before .before .before .before .before .before .before .before .before .before .before .before .before .before .before .before .before .before .before .fits .pivot)) at (c .before .before .before .before .before .before .before .before .before .before .before .before .before .before .before .before .before .before .before .before .before .before .narrowed .ensures) in
+    let q = rw (kept16 {z = c .before .before .before .before .before .before .before .before .before .before .before .before .before .before .before .before .before .before .before .before .before .before .narrowed .result} (c .before .before .before .before .before .before .before .before .before .before .before .before .before .before .before .before .before .before .before .before .before .before .narrowed .ok)) at (c .before .before .before .before .before .before .before .before .before .before .before .before .before .before .before .before .before .before .before .before .before .negated .ensures) in
+    let i = rw (kept16 {z = c .before .before .before .before .before .before .before .before .before .before .before .before .before .before .before .before .before .before .before .before .before .before .narrowed .result} (c .before .before .before .before .before .before .before .before .before .before .before .before .before .before .before .before .before .before .before .before .before .before .narrowed .ok)) at (c .before .before .before .before .before .before .before .before .before .before .before .before .before .before .before .place-of .ensures) in
+    let j = rw (kept16 {z = c .before .before .before .before .before .before .before .before .before .before .before .before .before .before .before .before .before .before .before .before .before .negated .result} (c .before .before .before .before .before .before .before .before .before .before .before .before .before .before .before .before .before .before .before .before .before .negated .ok)) at (c .before .before .before .before .before .before .before .before .before .before .before .before .before .place-of2 .ensures) in
+    let x = c .before .before .before .before .before .before .before .before .before .before .before .hold-without .ensures .copied .front ∙ clause-without _ _ (c .before .before .before .before .before .before .before .before .before .before .before .before .before .before .before .before .before .before .before .before .before .before .before .before .before .before .before .before .before .before .pre) _ (c .before .before .before .before .before .before .before .before .before .before .before .before .before .before .before .before .before .before .before .before .before .before .before .before .before .before .is-unknown .ensures) (c .before .before .before .before .before .before .before .before .before .before .before .before .before .before .before .before .before .before .before .before .before .before .before .before .before .if1 .left) (c .before .before .before .before .before .before .before .before .before .before .before .before .before .before .before .before .before .before .clause-at .ensures) _ i (c .before .before .before .before .before .before .before .before .before .before .before .before .before .before .if3 .left) in
+    let y = c .before .before .before .before .before .before .before .before .before .before .hold-without2 .ensures .copied .front ∙ clause-without _ _ (c .before .before .before .before .before .before .before .before .before .before .before .before .before .before .before .before .before .before .before .before .before .before .before .before .before .before .before .before .before .before .pre) _ (c .before .before .before .before .before .before .before .before .before .before .before .before .before .before .before .before .before .before .before .before .before .before .before .before .is-unknown2 .ensures) (c .before .before .before .before .before .before .before .before .before .before .before .before .before .before .before .before .before .before .before .before .before .before .before .if2 .left) (c .before .before .before .before .before .before .before .before .before .before .before .before .before .before .before .before .clause-at2 .ensures) _ j (c .before .before .before .before .before .before .before .before .before .before .before .before .if4 .left) in
+    let is = resolve-tested _ _ (c .before .before .before .before .before .before .before .before .before .before .before .before .before .before .before .before .before .before .before .before .before .before .before .before .before .before .before .before .before .before .pre) _ _ _ (c .before .before .before .before .before .before .before .before .before .before .before .before .before .before .before .before .before .before .before .before .before .before .before .before .before .before .is-unknown .ensures) (c .before .before .before .before .before .before .before .before .before .before .before .before .before .before .before .before .before .before .before .before .before .before .before .before .is-unknown2 .ensures) (c .before .before .before .before .before .before .before .before .before .before .before .before .before .before .before .before .before .before .before .before .before .before .before .before .before .if1 .left) (c .before .before .before .before .before .before .before .before .before .before .before .before .before .before .before .before .before .before .before .before .before .before .before .if2 .left) (c .before .before .before .before .before .before .before .before .before .before .before .before .before .before .before .before .before .before .clause-at .ensures) (c .before .before .before .before .before .before .before .before .before .before .before .before .before .before .before .before .clause-at2 .ensures) p q refl (place-present _ _ i (c .before .before .before .before .before .before .before .before .before .before .before .before .before .before .if3 .left)) refl (place-present _ _ j (c .before .before .before .before .before .before .before .before .before .before .before .before .if4 .left)) (λ k. join (x k) (y k)) in
+    rw is (c .before .before .before .add-resolvent .ensures)
 
 pub resolve-spec : {M : Type 1} → statement M
 resolve-spec =
@@ -156,19 +173,22 @@ resolve-spec =
     negated-requires
     clause-at-requires
     clause-at-requires-2
-    holds-requires
+    place-of-requires
     refused-requires-3
     same-length
     same-length-2
     returns-3
-    holds-requires-2
+    place-of-requires-2
     refused-requires-4
     same-length-3
     same-length-4
     returns-4
-    hold-resolvent-requires
-    array-share-prefix-whole
+    hold-without-requires
+    hold-without-requires-2
+    array-share-prefix-a
     slice-aggregate-add-resolvent
+    array-share-prefix-b
+    slice-aggregate-add-resolvent-2
     add-resolvent-requires
     same-length-5
     same-length-6

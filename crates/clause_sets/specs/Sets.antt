@@ -1,0 +1,36 @@
+-- Sets of literals and clauses over the list of the variables' sets, as the table has them.
+-- The model's own (dqbf's specs/Model.antt) are these over `m .sets ++ m .forks` (proofs/Laws/Sets.antt).
+-- Offers `setIn`, `clauseSetIn`, `InUse`, `PartOf`, `chosenBy`.
+use mathlib.Core.Path.{_≡_}
+use mathlib.Core.Bool.{cond}
+use mathlib.Core.List.{List, [], _∷_}
+use Prim.Native.Nat.{ℕ, zero, suc, _<_, _≤_}
+use lib.Dec.{eqb}
+use lib.IntN.{ℤ, natAbs}
+use lib.ListN.{length, getD}
+use Rattle.dqbf.specs.Literal.{Clause, _∈_}
+use Rattle.dqbf.specs.Set.{Set, emptySet, union}
+use Rattle.clause_sets.specs.declared.Part.{Part}
+
+-- the set of a variable
+unfoldable pub setIn : List Set → ℕ → Set
+setIn sets zero = emptySet
+setIn sets (suc i) = getD sets i emptySet
+
+-- the set of a clause: the union over its literals
+unfoldable pub clauseSetIn : List Set → Clause → Set
+clauseSetIn sets [] = emptySet
+clauseSetIn sets (l ∷ C) = union (setIn sets (natAbs l)) (clauseSetIn sets C)
+
+-- each literal's variable has a set
+abbrev pub InUse : List Set → Clause → Type 0
+InUse sets C = (l : ℤ) → l ∈ C → (0 < natAbs l) × (natAbs l ≤ length sets)
+
+-- r has the number of literals of C and its set
+pub record PartOf (sets : List Set) (C : Clause) (r : Part) : Type 0 where
+  pub count : r .count ≡ length C
+  pub set : r .set ≡ clauseSetIn sets C
+
+-- a set where a bit is 1
+unfoldable pub chosenBy : ℕ → Set → Set
+chosenBy bit set = cond (eqb bit 1) set emptySet

@@ -1,0 +1,14 @@
+#!/bin/sh
+# The tests of the gate beside the proofs: first those of the reference workspace,
+# then, once `rt ci` has proved every crate and begins with its edits, those on
+# the program and the archive. Without a verdict of `rt ci` in sight they wait.
+set -eu
+cd "$(dirname "$0")/.."
+tests/reference.sh
+while [ ! -d target/must-fail ] && [ ! -e reference/target/gate/verdict ]; do
+    sleep 1
+done
+tests/driver.sh
+tests/examples.sh
+tests/differential.sh --jobs "$(nproc)"
+tests/depqbf.sh
