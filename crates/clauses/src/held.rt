@@ -13,12 +13,12 @@ pub struct Held {
     pub count: usize,
 }
 
-// The clause.
+// The clause. What stands behind it is never read: ones, since the compiler clears zeros by a call of their own.
 pub fn hold(clause: &[i16]) -> Held
     requires { ⌜ length (now clause) ≤ widthLimit ⌝ }
     ensures { λ r. ⌜ ByValue (now (clause .entry)) widthLimit (r .literals) (r .count) ⌝ }
 {
-    let mut literals = [0i16; WIDTH_LIMIT];
+    let mut literals = [1i16; WIDTH_LIMIT];
     let count = writing::write_clause(&mut literals, clause);
     Held { literals, count }
 }
