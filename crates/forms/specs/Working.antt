@@ -47,11 +47,12 @@ wordsOf line = words (pieces space line)
 unfoldable pub after : List ℕ → ℕ → List (List ℕ)
 after line i = cond (ltb i (length line)) (wordsOf (drop (i + 1) line)) []
 
--- the byte of a token that is one byte long, and 0 for any other: `sameBytes w (bytes "a")` tests it
+-- the first token of a line that no space leads, if it is one byte long; 0 for any longer one.
+-- `sameBytes w (bytes "a")` of the first token w tests it.
 unfoldable pub keyword : List ℕ → ℕ
 keyword [] = 0
 keyword (b ∷ []) = b
-keyword (b ∷ d ∷ ds) = 0
+keyword (b ∷ d ∷ ds) = cond (eqb d space) b 0
 
 -- the first token of a line from i on, and the tokens behind it
 pub record Cut (line : List ℕ) (i : ℕ) (t : Token) : Type 0 where

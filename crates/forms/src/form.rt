@@ -2,9 +2,9 @@
 ghost use mathlib.Core.Path.{_≡_};
 ghost use mathlib.Core.Option.{some};
 ghost use Prim.Native.Nat.{_≤_, _<_, _*_};
-ghost use lib.ListN.{length, drop};
+ghost use lib.ListN.{length, drop, getD};
 ghost use Rattle.dqbf.specs.Bytes.{bytes, sameBytes};
-ghost use Rattle.dqbf.specs.Text.{closed, literalOf, variableOf};
+ghost use Rattle.dqbf.specs.Text.{space, closed, literalOf, variableOf};
 ghost use Rattle.dqbf.specs.Reading.{headerForm, clauseForm, tokensForm, formOf};
 ghost use Rattle.forms.specs.Shapes.{shapeOf, Formed};
 ghost use Rattle.forms.specs.Working.{keyword, wordsOf, after, entryOf, mayLead, ranked, headerShape, Gathered, Listing};
@@ -88,14 +88,18 @@ fn gather(line: &[u8], i: usize, signed: bool, numbers: &mut [u32]) -> Gathering
     Gathering::Open
 }
 
-// The byte of a token that is one byte long, and 0 for any other.
-fn keyword_byte(token: &[u8]) -> u8
-    ensures { λ r. ⌜ r ≡ keyword (now (token .entry)) ⌝ }
+// The first byte of a line that no space leads, if its first token is one byte long; 0 otherwise.
+fn keyword_byte(line: &[u8]) -> u8
+    requires { ⌜ 0 < length (now line) ⌝ }
+    ensures { λ r. ⌜ r ≡ keyword (now (line .entry)) ⌝ }
 {
-    if token.len() == 1 {
-        return token[0];
+    if line.len() == 1 {
+        return line[0];
     }
-    0
+    if line[1] != 32 {
+        return 0;
+    }
+    line[0]
 }
 
 fn is_cnf(token: &[u8]) -> bool
@@ -188,34 +192,31 @@ fn clause_form(line: &[u8], numbers: &mut [u32]) -> Shape
     Shape::Clause(n)
 }
 
-// The form of a line by its tokens; an empty token at its end, which a trailing space leaves, has no form.
+// The form of a line, which no space leads, by its tokens; an empty token at its end, which a trailing space leaves, has no form.
 fn tokens_form(line: &[u8], numbers: &mut [u32]) -> Shape
-    requires { ⌜ length (now line) ≤ 2 * length (now numbers) ⌝ }
+    requires { ⌜ (length (now line) ≤ 2 * length (now numbers)) × (0 < length (now line)) × (getD (now line) 0 0 ≡ space → ⊥) ⌝ }
     ensures { λ r. ⌜ Formed (tokensForm (some (wordsOf (now (line .entry))))) r (now (numbers .exit)) ⌝ }
 {
-    let t = crate::text::next_token(line, 0);
-    let f = t.from;
-    let e = t.to;
-    let k = keyword_byte(&line[f..e]);
+    let k = keyword_byte(line);
     if k == 112 {
-        return header_form(line, e);
+        return header_form(line, 1);
     }
     if k == 97 {
-        let n = variables(line, e, numbers);
+        let n = variables(line, 1, numbers);
         if n == 0 {
             return Shape::Malformed;
         }
         return Shape::Universals(n);
     }
     if k == 101 {
-        let n = variables(line, e, numbers);
+        let n = variables(line, 1, numbers);
         if n == 0 {
             return Shape::Malformed;
         }
         return Shape::Existentials(n);
     }
     if k == 100 {
-        let n = variables(line, e, numbers);
+        let n = variables(line, 1, numbers);
         if n == 0 {
             return Shape::Malformed;
         }

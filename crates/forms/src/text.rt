@@ -21,19 +21,33 @@ fn length_before(bytes: &[u8], b: u8) -> usize
     i
 }
 
-// Whether the byte b is one of the sixteen from i on: each is looked at, so that the processor compares them at once.
-fn block_has(bytes: &[u8], i: usize, b: u8) -> bool
-    requires { ⌜ i + 16 ≤ length (now bytes) ⌝ }
-    ensures { λ r. ⌜ (r ≡ false → lengthBefore b (drop i (now (bytes .entry))) ≡ 16 + lengthBefore b (drop (i + 16) (now (bytes .entry)))) ⌝ }
+// Whether the byte b is one of the n from i on: each is looked at, so that the processor compares them at once.
+fn block_has(bytes: &[u8], i: usize, n: usize, b: u8) -> bool
+    requires { ⌜ i + n ≤ length (now bytes) ⌝ }
+    ensures { λ r. ⌜ (r ≡ false → lengthBefore b (drop i (now (bytes .entry))) ≡ n + lengthBefore b (drop (i + n) (now (bytes .entry)))) ⌝ }
 {
     let mut found = false;
     let mut k = 0;
-    while k < 16 {
+    while k < n {
         let at = i + k;
         found = found | (bytes[at] == b);
         k += 1;
     }
     found
+}
+
+// Behind the n bytes from i on, if there are so many and b is none of them; i otherwise.
+fn skip_block(bytes: &[u8], i: usize, n: usize, b: u8) -> usize
+    requires { ⌜ i ≤ length (now bytes) ⌝ }
+    ensures { λ r. ⌜ (r ≤ length (now (bytes .entry))) × (i + lengthBefore b (drop i (now (bytes .entry))) ≡ r + lengthBefore b (drop r (now (bytes .entry)))) ⌝ }
+{
+    if bytes.len() - i < n {
+        return i;
+    }
+    if block_has(bytes, i, n, b) {
+        return i;
+    }
+    i + n
 }
 
 // How many bytes stand in the blocks of sixteen before the first one that has the byte b.
@@ -42,7 +56,7 @@ fn blocks_before(bytes: &[u8], b: u8) -> usize
 {
     let mut i = 0;
     while bytes.len() - i >= 16 {
-        if block_has(bytes, i, b) {
+        if block_has(bytes, i, 16, b) {
             return i;
         }
         i += 16;
@@ -54,7 +68,10 @@ fn blocks_before(bytes: &[u8], b: u8) -> usize
 pub fn line_length(text: &[u8]) -> usize
     ensures { λ r. ⌜ r ≡ lineLength (now (text .entry)) ⌝ }
 {
-    let passed = blocks_before(text, 10);
+    let first = blocks_before(text, 10);
+    let second = skip_block(text, first, 8, 10);
+    let third = skip_block(text, second, 4, 10);
+    let passed = skip_block(text, third, 2, 10);
     passed + length_before(&text[passed..], 10)
 }
 

@@ -4,24 +4,24 @@ use mathlib.Core.Bool.{Bool, true, false, cond, _&&_, true≢false}
 use mathlib.Core.List.{List, [], _∷_, map}
 use mathlib.Core.Option.{Option, none, some}
 use Prim.Native.Nat.{ℕ, _+_, _-_, _<_}
-use native.Mathlib.Nat.{suc-ne-zero, suc-inj}
+use native.Mathlib.Nat.{suc-ne-zero, suc-inj, not-suc-le-zero}
 use native.Mathlib.Omega.{arith}
 use lib.Dec.{eqb}
 use lib.ListN.{length, take, drop, getD, length-map}
 use borrow.Author.Tests.{eq-eqb, ne-eqb}
 use Rattle.dqbf.specs.Bytes.{bytes, sameBytes}
 use Rattle.dqbf.specs.Literal.{Clause, rank}
-use Rattle.dqbf.specs.Text.{numberOf, variableOf, literalOf, closed}
+use Rattle.dqbf.specs.Text.{space, onto, pieces, isEmpty, numberOf, variableOf, literalOf, closed}
 use Rattle.dqbf.specs.Reading.{Form, aLine, eLine, dLine, noForm, headerOf, headerForm, prefixForm, clauseForm, tokensForm, formOf}
 use Rattle.forms.specs.Shapes.{shapeOf, numbersOf, Formed}
-use Rattle.forms.specs.Working.{isNil, wordsOf, after, keyword, plusOne, each, entryOf, entries, countOf, headerShape, Cut, Gathered, Listing}
+use Rattle.forms.specs.Working.{isNil, words, wordsOf, after, keyword, plusOne, each, entryOf, entries, countOf, headerShape, Cut, Gathered, Listing}
 use Rattle.forms.specs.declared.text.Token.{Token}
 use Rattle.forms.specs.declared.form.Gathering.{Gathering}
 use Rattle.forms.specs.declared.form.Gathering.the-variants.{Count, Open}
 use Rattle.forms.specs.declared.form.Shape.{Shape}
 use Rattle.forms.specs.declared.form.Shape.the-variants.{Comment, Header, Universals, Existentials, Dependent, Malformed}
 use Rattle.forms.specs.declared.form.Shape.the-variants as shape
-use Rattle.forms.proofs.Laws.Pieces.{words-some, after-none, after-some}
+use Rattle.forms.proofs.Laws.Pieces.{pieces-some, words-some, after-none, after-some}
 use Rattle.forms.proofs.Laws.Bridge.{form-empty, form-comment, form-space, form-words, closed-variables, closed-ranks}
 
 and-false : (t : Bool) → (t && false) ≡ false
@@ -34,23 +34,23 @@ and-true false = refl
 
 -- ---- `keyword_byte`
 
-pub keyword-one : (w : List ℕ) → length w ≡ 1 → getD w 0 0 ≡ keyword w
+pub keyword-one : (l : List ℕ) → length l ≡ 1 → getD l 0 0 ≡ keyword l
 unfolding keyword
 keyword-one [] h = refl
 keyword-one (b ∷ []) h = refl
 keyword-one (b ∷ d ∷ ds) h = absurd (suc-ne-zero _ (suc-inj h))
 
-pub keyword-other : (w : List ℕ) → (length w ≡ 1 → ⊥) → 0 ≡ keyword w
+pub keyword-longer : (l : List ℕ) → (length l ≡ 1 → ⊥) → (getD l 1 0 ≡ space → ⊥) → 0 ≡ keyword l
 unfolding keyword
-keyword-other [] h = refl
-keyword-other (b ∷ []) h = absurd (h refl)
-keyword-other (b ∷ d ∷ ds) h = refl
+keyword-longer [] h n = refl
+keyword-longer (b ∷ []) h n = absurd (h refl)
+keyword-longer (b ∷ d ∷ ds) h n = rw (ne-eqb d space n)
 
-keyword-same : (w : List ℕ) (b : ℕ) → (0 ≡ b → ⊥) → sameBytes w (b ∷ []) ≡ eqb (keyword w) b
-unfolding sameBytes keyword
-keyword-same [] b h = sym (ne-eqb 0 b h)
-keyword-same (a ∷ []) b h = and-true (eqb a b)
-keyword-same (a ∷ c ∷ cs) b h = and-false (eqb a b) ∙ sym (ne-eqb 0 b h)
+pub keyword-spaced : (l : List ℕ) → getD l 1 0 ≡ space → getD l 0 0 ≡ keyword l
+unfolding keyword
+keyword-spaced [] e = refl
+keyword-spaced (b ∷ []) e = refl
+keyword-spaced (b ∷ d ∷ ds) e = rw (eq-eqb d space e)
 
 -- ---- `is_cnf`
 
@@ -246,48 +246,95 @@ prefix-some F S p q (some (x ∷ xs)) n out g h =
     let e : n ≡ length (x ∷ xs) = g .count-is in
     record { shape = ap S e ∙ sym (p x xs); front = rw (q x xs) (ap (λ (m : ℕ). take m out) (sym e) ∙ g .front) }
 
-module _ (l : List ℕ) (t : Token) (cut : Cut l 0 t) (k : ℕ) (key : k ≡ keyword (wordAt l t)) where
-  first-word : wordsOf l ≡ wordAt l t ∷ after l (t .to)
-  first-word = cut .rest
+-- the first token of a line, tested by the keyword, and the tokens behind it
+record Keyed (l : List ℕ) : Type 0 where
+  word : List ℕ
+  others : List (List ℕ)
+  all : wordsOf l ≡ word ∷ others
+  tested : (x : ℕ) → (0 ≡ x → ⊥) → sameBytes word (x ∷ []) ≡ eqb (keyword l) x
+  behind : (keyword l ≡ 0 → ⊥) → others ≡ after l 1
 
-  tests : (b : ℕ) → (0 ≡ b → ⊥) → sameBytes (wordAt l t) (b ∷ []) ≡ eqb k b
-  tests b h = keyword-same (wordAt l t) b h ∙ ap (λ (x : ℕ). eqb x b) (sym key)
+keyed : (l : List ℕ) → 0 < length l → (getD l 0 0 ≡ space → ⊥) → Keyed l
+unfolding wordsOf words pieces onto isNil isEmpty keyword sameBytes after
+keyed [] h n = absurd (not-suc-le-zero h)
+keyed (b ∷ []) h n = record { word = b ∷ []; others = []; all = rw (ne-eqb b space n); tested = λ x z. and-true (eqb b x); behind = λ z. refl }
+keyed (b ∷ d ∷ ds) h n = go (eqb d space) refl
+  where
+    longer : eqb d space ≡ false → (w : List ℕ) (ws : List (List ℕ)) → wordsOf (b ∷ d ∷ ds) ≡ (b ∷ d ∷ w) ∷ ws → Keyed (b ∷ d ∷ ds)
+    longer e w ws q =
+        record {
+          word = b ∷ d ∷ w;
+          others = ws;
+          all = q;
+          tested = λ x z. rw e (and-false (eqb b x) ∙ sym (ne-eqb 0 x z));
+          behind = λ z. absurd (z (rw e));
+        }
 
-  pub p-line : k ≡ 112 → (r : Shape) (out : List ℕ) → r ≡ shapeOf (headerForm (after l (t .to))) → Formed (tokensForm (some (wordsOf l))) r out
+    from : eqb d space ≡ false → (ps : List (List ℕ)) → pieces space ds ≡ ps → Keyed (b ∷ d ∷ ds)
+    from e [] q = longer e [] [] (rw (ne-eqb b space n, e, q))
+    from e (w ∷ []) q = longer e w [] (rw (ne-eqb b space n, e, q))
+    from e (w ∷ v ∷ vs) q = longer e w (words (v ∷ vs)) (rw (ne-eqb b space n, e, q))
+
+    go : (t : Bool) → eqb d space ≡ t → Keyed (b ∷ d ∷ ds)
+    go true e =
+        record {
+          word = b ∷ [];
+          others = wordsOf ds;
+          all = rw (ne-eqb b space n, e, pieces-some space ds);
+          tested = λ x z. rw e (and-true (eqb b x));
+          behind = λ z. sym (after-some (b ∷ d ∷ ds) 1 (omega arith));
+        }
+    go false e = from e (pieces space ds) refl
+
+module _ (l : List ℕ) (some-byte : 0 < length l) (no-space : getD l 0 0 ≡ space → ⊥) (k : ℕ) (key : k ≡ keyword l) where
+  parts : Keyed l
+  parts = keyed l some-byte no-space
+
+  first-word : wordsOf l ≡ parts .word ∷ parts .others
+  first-word = parts .all
+
+  behind-it : (k ≡ 0 → ⊥) → parts .others ≡ after l 1
+  behind-it h = parts .behind (λ z. h (key ∙ z))
+
+  tests : (b : ℕ) → (0 ≡ b → ⊥) → sameBytes (parts .word) (b ∷ []) ≡ eqb k b
+  tests b h = parts .tested b h ∙ ap (λ (x : ℕ). eqb x b) (sym key)
+
+  pub p-line : k ≡ 112 → (r : Shape) (out : List ℕ) → r ≡ shapeOf (headerForm (after l 1)) → Formed (tokensForm (some (wordsOf l))) r out
   unfolding tokensForm bytes
   p-line e r out h =
-      rw (first-word, tests 112 (λ z. omega arith), eq-eqb k 112 e) (record { shape = h; front = rw (header-numbers (after l (t .to))) })
+      rw (first-word, behind-it (λ z. omega arith), tests 112 (λ z. omega arith), eq-eqb k 112 e) (record { shape = h; front = rw (header-numbers (after l 1)) })
 
   module _ (not-p : k ≡ 112 → ⊥) (n : ℕ) (out : List ℕ) where
-    a-is : k ≡ 97 → tokensForm (some (wordsOf l)) ≡ prefixForm (λ x xs. aLine (x ∷ xs)) (closed variableOf (after l (t .to)))
+    a-is : k ≡ 97 → tokensForm (some (wordsOf l)) ≡ prefixForm (λ x xs. aLine (x ∷ xs)) (closed variableOf (after l 1))
     unfolding tokensForm bytes
-    a-is e = rw (first-word, tests 112 (λ z. omega arith), tests 97 (λ z. omega arith), ne-eqb k 112 not-p, eq-eqb k 97 e)
+    a-is e = rw (first-word, behind-it (λ z. omega arith), tests 112 (λ z. omega arith), tests 97 (λ z. omega arith), ne-eqb k 112 not-p, eq-eqb k 97 e)
 
-    pub a-none : k ≡ 97 → Listing (closed variableOf (after l (t .to))) n out → n ≡ 0 → Formed (tokensForm (some (wordsOf l))) Malformed out
-    a-none e g h = rw (a-is e) (prefix-none (λ x xs. aLine (x ∷ xs)) (closed variableOf (after l (t .to))) n out g h)
+    pub a-none : k ≡ 97 → Listing (closed variableOf (after l 1)) n out → n ≡ 0 → Formed (tokensForm (some (wordsOf l))) Malformed out
+    a-none e g h = rw (a-is e) (prefix-none (λ x xs. aLine (x ∷ xs)) (closed variableOf (after l 1)) n out g h)
 
-    pub a-some : k ≡ 97 → Listing (closed variableOf (after l (t .to))) n out → (n ≡ 0 → ⊥) → Formed (tokensForm (some (wordsOf l))) (Universals n) out
+    pub a-some : k ≡ 97 → Listing (closed variableOf (after l 1)) n out → (n ≡ 0 → ⊥) → Formed (tokensForm (some (wordsOf l))) (Universals n) out
     unfolding shapeOf numbersOf
-    a-some e g h = rw (a-is e) (prefix-some (λ x xs. aLine (x ∷ xs)) Universals (λ x xs. refl) (λ x xs. refl) (closed variableOf (after l (t .to))) n out g h)
+    a-some e g h = rw (a-is e) (prefix-some (λ x xs. aLine (x ∷ xs)) Universals (λ x xs. refl) (λ x xs. refl) (closed variableOf (after l 1)) n out g h)
 
     module _ (not-a : k ≡ 97 → ⊥) where
-      e-is : k ≡ 101 → tokensForm (some (wordsOf l)) ≡ prefixForm (λ x xs. eLine (x ∷ xs)) (closed variableOf (after l (t .to)))
+      e-is : k ≡ 101 → tokensForm (some (wordsOf l)) ≡ prefixForm (λ x xs. eLine (x ∷ xs)) (closed variableOf (after l 1))
       unfolding tokensForm bytes
-      e-is e = rw (first-word, tests 112 (λ z. omega arith), tests 97 (λ z. omega arith), tests 101 (λ z. omega arith), ne-eqb k 112 not-p, ne-eqb k 97 not-a, eq-eqb k 101 e)
+      e-is e = rw (first-word, behind-it (λ z. omega arith), tests 112 (λ z. omega arith), tests 97 (λ z. omega arith), tests 101 (λ z. omega arith), ne-eqb k 112 not-p, ne-eqb k 97 not-a, eq-eqb k 101 e)
 
-      pub e-none : k ≡ 101 → Listing (closed variableOf (after l (t .to))) n out → n ≡ 0 → Formed (tokensForm (some (wordsOf l))) Malformed out
-      e-none e g h = rw (e-is e) (prefix-none (λ x xs. eLine (x ∷ xs)) (closed variableOf (after l (t .to))) n out g h)
+      pub e-none : k ≡ 101 → Listing (closed variableOf (after l 1)) n out → n ≡ 0 → Formed (tokensForm (some (wordsOf l))) Malformed out
+      e-none e g h = rw (e-is e) (prefix-none (λ x xs. eLine (x ∷ xs)) (closed variableOf (after l 1)) n out g h)
 
-      pub e-some : k ≡ 101 → Listing (closed variableOf (after l (t .to))) n out → (n ≡ 0 → ⊥) → Formed (tokensForm (some (wordsOf l))) (Existentials n) out
+      pub e-some : k ≡ 101 → Listing (closed variableOf (after l 1)) n out → (n ≡ 0 → ⊥) → Formed (tokensForm (some (wordsOf l))) (Existentials n) out
       unfolding shapeOf numbersOf
-      e-some e g h = rw (e-is e) (prefix-some (λ x xs. eLine (x ∷ xs)) Existentials (λ x xs. refl) (λ x xs. refl) (closed variableOf (after l (t .to))) n out g h)
+      e-some e g h = rw (e-is e) (prefix-some (λ x xs. eLine (x ∷ xs)) Existentials (λ x xs. refl) (λ x xs. refl) (closed variableOf (after l 1)) n out g h)
 
       module _ (not-e : k ≡ 101 → ⊥) where
-        d-is : k ≡ 100 → tokensForm (some (wordsOf l)) ≡ prefixForm dLine (closed variableOf (after l (t .to)))
+        d-is : k ≡ 100 → tokensForm (some (wordsOf l)) ≡ prefixForm dLine (closed variableOf (after l 1))
         unfolding tokensForm bytes
         d-is e =
             rw (
               first-word,
+              behind-it (λ z. omega arith),
               tests 112 (λ z. omega arith),
               tests 97 (λ z. omega arith),
               tests 101 (λ z. omega arith),
@@ -298,12 +345,12 @@ module _ (l : List ℕ) (t : Token) (cut : Cut l 0 t) (k : ℕ) (key : k ≡ key
               eq-eqb k 100 e,
             )
 
-        pub d-none : k ≡ 100 → Listing (closed variableOf (after l (t .to))) n out → n ≡ 0 → Formed (tokensForm (some (wordsOf l))) Malformed out
-        d-none e g h = rw (d-is e) (prefix-none dLine (closed variableOf (after l (t .to))) n out g h)
+        pub d-none : k ≡ 100 → Listing (closed variableOf (after l 1)) n out → n ≡ 0 → Formed (tokensForm (some (wordsOf l))) Malformed out
+        d-none e g h = rw (d-is e) (prefix-none dLine (closed variableOf (after l 1)) n out g h)
 
-        pub d-some : k ≡ 100 → Listing (closed variableOf (after l (t .to))) n out → (n ≡ 0 → ⊥) → Formed (tokensForm (some (wordsOf l))) (Dependent n) out
+        pub d-some : k ≡ 100 → Listing (closed variableOf (after l 1)) n out → (n ≡ 0 → ⊥) → Formed (tokensForm (some (wordsOf l))) (Dependent n) out
         unfolding shapeOf numbersOf
-        d-some e g h = rw (d-is e) (prefix-some dLine Dependent (λ x xs. refl) (λ x xs. refl) (closed variableOf (after l (t .to))) n out g h)
+        d-some e g h = rw (d-is e) (prefix-some dLine Dependent (λ x xs. refl) (λ x xs. refl) (closed variableOf (after l 1)) n out g h)
 
         clause-is : (k ≡ 100 → ⊥) → tokensForm (some (wordsOf l)) ≡ clauseForm (closed literalOf (wordsOf l))
         unfolding tokensForm bytes

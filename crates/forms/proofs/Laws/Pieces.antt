@@ -52,9 +52,9 @@ block-more s l i k found so-far h z =
     let q : i + (k + 1) ≡ i + k + 1 = omega arith in
     rw q (omega arith)
 
-pub block-all : (s : ℕ) (l : List ℕ) (i k : ℕ) (found : Bool) → (found ≡ false → lengthBefore s (drop i l) ≡ k + lengthBefore s (drop (i + k) l)) → k ≡ 16
-    → found ≡ false → lengthBefore s (drop i l) ≡ 16 + lengthBefore s (drop (i + 16) l)
-block-all s l i k found so-far e z = so-far z ∙ ap (λ (n : ℕ). n + lengthBefore s (drop (i + n) l)) e
+pub block-all : (s : ℕ) (l : List ℕ) (i k n : ℕ) (found : Bool) → (found ≡ false → lengthBefore s (drop i l) ≡ k + lengthBefore s (drop (i + k) l)) → k ≡ n
+    → found ≡ false → lengthBefore s (drop i l) ≡ n + lengthBefore s (drop (i + n) l)
+block-all s l i k n found so-far e z = so-far z ∙ ap (λ (m : ℕ). m + lengthBefore s (drop (i + m) l)) e
 
 -- ---- leading
 

@@ -1,21 +1,41 @@
 use borrow.Author.Needs.{needs}
-use Rattle.forms.proofs.Laws.Forms.{keyword-one, keyword-other}
+use Rattle.forms.proofs.Laws.Forms.{keyword-one, keyword-longer, keyword-spaced}
 use Rattle.forms.proofs.form.keyword_byte.Statement.{statement}
 use Rattle.forms.proofs.form.keyword_byte.Tie as tie
 use Rattle.forms.proofs.form.keyword_byte.Reads as reads
 use Rattle.forms.proofs.form.keyword_byte.Lts as lts
 
--- src/form.rt:72:16
+-- src/form.rt:97:16
 shared-slice-read-result : tie.Need-shared-slice-read-result
 shared-slice-read-result c = search needs
 
--- src/form.rt:72:9
+-- src/form.rt:97:9
 returns : tie.Need-returns
-returns c = keyword-one (c .before .before .args .token .now) (c .before .if1 .taken)
+returns c = keyword-one (c .before .before .args .line .now) (c .before .if1 .taken)
 
--- src/form.rt:68:1
+-- src/form.rt:99:8
+shared-slice-read-if2 : tie.Need-shared-slice-read-if2
+shared-slice-read-if2 c = search needs
+
+-- src/form.rt:100:9
 returns-2 : tie.Need-returns-2
-returns-2 c = keyword-other (c .before .args .token .now) (c .if1 .left)
+returns-2 c = keyword-longer (c .before .before .before .args .line .now) (c .before .before .if1 .left) (c .if2 .taken)
+
+-- src/form.rt:102:5
+shared-slice-read-result-2 : tie.Need-shared-slice-read-result-2
+shared-slice-read-result-2 c = search needs
+
+-- src/form.rt:92:1
+returns-3 : tie.Need-returns-3
+returns-3 c = keyword-spaced (c .before .before .before .before .args .line .now) (c .before .if2 .left)
 
 pub keyword-byte-spec : {M : Type 1} → statement M
-keyword-byte-spec = tie.close (tie.spec shared-slice-read-result returns returns-2)
+keyword-byte-spec =
+    tie.close
+    (tie.spec
+    shared-slice-read-result
+    returns
+    shared-slice-read-if2
+    returns-2
+    shared-slice-read-result-2
+    returns-3)

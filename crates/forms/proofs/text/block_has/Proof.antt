@@ -11,10 +11,10 @@ use Rattle.forms.proofs.text.block_has.Reads as reads
 use Rattle.forms.proofs.text.block_has.Lts as lts
 
 abbrev Inv-loop : tie.InvT-loop
-Inv-loop bytes i b found₀ k₀ found k = (k ≤ 16) × (found ≡ false → lengthBefore b (drop i bytes) ≡ k + lengthBefore b (drop (i + k) bytes))
+Inv-loop bytes i n b found₀ k₀ found k = (k ≤ n) × (found ≡ false → lengthBefore b (drop i bytes) ≡ k + lengthBefore b (drop (i + k) bytes))
 
 abbrev μ-loop : tie.MeasureT-loop
-μ-loop bytes i b found₀ k₀ found k = 16 - k
+μ-loop bytes i n b found₀ k₀ found k = n - k
 
 -- src/text.rt:31:5
 loop-holds : tie.Need-loop-holds Inv-loop μ-loop
@@ -42,7 +42,7 @@ loop-again c = (omega arith, block-more (c .before .before .before .args .b) (c 
 
 -- src/text.rt:25:1
 returns : tie.Need-returns Inv-loop μ-loop
-returns c = block-all (c .before .before .args .b) (c .before .before .args .bytes .now) (c .before .before .args .i) (c .before .loop .k) (c .before .loop .found) (c .before .loop .inv .1) (omega arith)
+returns c = block-all (c .before .before .args .b) (c .before .before .args .bytes .now) (c .before .before .args .i) (c .before .loop .k) (c .before .before .args .n) (c .before .loop .found) (c .before .loop .inv .1) (omega arith)
 
 pub block-has-spec : {M : Type 1} → statement M
 block-has-spec =
