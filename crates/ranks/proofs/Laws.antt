@@ -1,6 +1,5 @@
 -- Laws of the definitions, and of what each function answers
 pub mod Insertion
 pub mod Sorting
-pub mod Rising
-pub mod Counting
+pub mod Marks
 pub mod Ranks

@@ -31,18 +31,17 @@ pub fn write_literals(ranks: &[u32], count: usize, tail: &mut [i16])
     }
 }
 
-// Whether two of the first `count` ranks that stand side by side have one variable.
+// Whether two of the first `count` ranks that stand side by side have one variable. All are looked at, so that several can be compared at once.
 pub fn has_pair(ranks: &[u32], count: usize) -> bool
     requires { ⌜ count ≤ length (now ranks) ⌝ }
     ensures { λ r. ⌜ r ≡ sideBySide (take count (now (ranks .entry))) ⌝ }
 {
+    let mut found = false;
     let mut i = 0;
     while i + 1 < count {
         let j = i + 1;
-        if ranks[i] / 2 == ranks[j] / 2 {
-            return true;
-        }
+        found = found | (ranks[i] / 2 == ranks[j] / 2);
         i = j;
     }
-    false
+    found
 }

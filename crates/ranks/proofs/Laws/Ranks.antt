@@ -1,7 +1,7 @@
 -- Ranks and their literals: `literal-rank` and `literals-ranks` lead back, `pair-clashes` is the clash of a clause by its ranks,
 -- and one law for each answer of the functions of `literals`.
 use mathlib.Core.Path.{_≡_, refl, sym, ap, ap₂, _∙_}
-use mathlib.Core.Bool.{true, false}
+use mathlib.Core.Bool.{Bool, true, false, _||_}
 use mathlib.Core.List.{List, [], _∷_, _++_, map}
 use Prim.Native.Nat.{ℕ, zero, suc, _+_, _*_, _/_, _%_, _^_, _≤_, _<_}
 use native.Mathlib.Nat.{not-suc-le-zero, le-of-suc-le-suc, suc-add}
@@ -15,6 +15,7 @@ use mir.Syntax.{w16}
 use mir.Val.{SFits, toZ, ofZ}
 use mir.Facts.{toZ-pos, toZ-ofZ}
 use borrow.Author.Needs.{sfits-of}
+use lib.Dec.{eqb}
 use borrow.Author.Tests.{eq-eqb, ne-eqb}
 use Rattle.dqbf.specs.Limits.{literalRange}
 use Rattle.dqbf.specs.Literal.{Clause, rank, clashes}
@@ -104,26 +105,28 @@ module _ (ranks : List ℕ) (tail tail₀ : List ℤ) (count i : ℕ) (in-ranks 
   pub written-done : count ≤ i → tail ≡ map literalOfRank (take count ranks) ++ drop count tail₀
   written-done h = let e : i ≡ count = omega arith in so-far ∙ ap (λ (j : ℕ). map literalOfRank (take j ranks) ++ drop j tail₀) e
 
--- ---- `has_pair`: no pair stands before i
+-- ---- `has_pair`: the pairs before i are looked at
 
-module _ (l : List ℕ) (n i : ℕ) (fits : n ≤ length l) (so-far : sideBySide (take n l) ≡ sideBySide (drop i (take n l))) where
+or-or : (a b c : Bool) → ((a || b) || c) ≡ (a || (b || c))
+or-or true b c = refl
+or-or false b c = refl
+
+module _ (l : List ℕ) (n i : ℕ) (found : Bool) (fits : n ≤ length l) (so-far : sideBySide (take n l) ≡ (found || sideBySide (drop i (take n l)))) where
   two : i + 1 < n → drop i (take n l) ≡ getD l i 0 ∷ getD l (i + 1) 0 ∷ drop (suc (suc i)) (take n l)
   two h = slice-cons i n l 0 (omega arith) (omega arith) ∙ rw (add-one i) (ap (λ (r : List ℕ). getD l i 0 ∷ r) (slice-cons (suc i) n l 0 (omega arith) (omega arith)))
 
-  pub pair-found : i + 1 < n → getD l i 0 / 2 ≡ getD l (i + 1) 0 / 2 → true ≡ sideBySide (take n l)
+  pub pair-more : i + 1 < n → sideBySide (take n l) ≡ ((found || eqb (getD l i 0 / 2) (getD l (i + 1) 0 / 2)) || sideBySide (drop (i + 1) (take n l)))
   unfolding sideBySide
-  pair-found h e = sym (so-far ∙ ap sideBySide (two h) ∙ rw (eq-eqb (getD l i 0 / 2) (getD l (i + 1) 0 / 2) e))
+  pair-more h =
+      so-far ∙ ap (λ (r : List ℕ). found || sideBySide r) (two h)
+      ∙ rw (add-one i, slice-cons (suc i) n l 0 (omega arith) (omega arith)) (sym (or-or found (eqb (getD l i 0 / 2) (getD l (suc i) 0 / 2)) _))
 
-  pub pair-more : i + 1 < n → (getD l i 0 / 2 ≡ getD l (i + 1) 0 / 2 → ⊥) → sideBySide (take n l) ≡ sideBySide (drop (i + 1) (take n l))
+  pub pair-done : n ≤ i + 1 → found ≡ sideBySide (take n l)
   unfolding sideBySide
-  pair-more h e =
-      so-far ∙ ap sideBySide (two h) ∙ rw (ne-eqb (getD l i 0 / 2) (getD l (i + 1) 0 / 2) e, add-one i) (ap sideBySide (sym (slice-cons (suc i) n l 0 (omega arith) (omega arith))))
-
-  pub pair-none : n ≤ i + 1 → false ≡ sideBySide (take n l)
-  unfolding sideBySide
-  pair-none h = sym (so-far ∙ go (drop i (take n l)) (omega (arith, length-drop i (take n l), length-take-le n l fits)))
+  pair-done h = sym (so-far ∙ go found (drop i (take n l)) (omega (arith, length-drop i (take n l), length-take-le n l fits)))
     where
-      go : (r : List ℕ) → length r ≤ 1 → sideBySide r ≡ false
-      go [] h = refl
-      go (x ∷ []) h = refl
-      go (x ∷ y ∷ ys) h = absurd (not-suc-le-zero (le-of-suc-le-suc h))
+      go : (t : Bool) (r : List ℕ) → length r ≤ 1 → (t || sideBySide r) ≡ t
+      go true r h = refl
+      go false [] h = refl
+      go false (x ∷ []) h = refl
+      go false (x ∷ y ∷ ys) h = absurd (not-suc-le-zero (le-of-suc-le-suc h))
