@@ -1,19 +1,16 @@
 // Clause lines: the literals of a line as a clause of the tables.
 ghost use mathlib.Core.Path.{_≡_};
 ghost use mathlib.Core.List.{List, map};
-ghost use Prim.Native.Nat.{ℕ, _+_, _*_, _≤_, _<_};
-ghost use lib.IntN.{ℤ};
-ghost use lib.ListN.{length, take, getD};
-ghost use lib.ListN as List;
-ghost use Rattle.dqbf.specs.Limits.{clauseLimit, literalLimit, variableLimit, widthLimit, literalRange};
+ghost use Prim.Native.Nat.{ℕ, _≤_};
+ghost use lib.ListN.{length};
+ghost use Rattle.dqbf.specs.Limits.{clauseLimit, literalLimit, variableLimit};
 ghost use Rattle.dqbf.specs.Literal.{Clause, rank};
 ghost use Rattle.dqbf.specs.Reading.{Reader, clauseLine};
 ghost use Rattle.tables.specs.Tables.{Tables, tablesOf};
 ghost use Rattle.tables.specs.WellFormed.{allOf};
-ghost use Rattle.tables.specs.Adding.{stored, RoomFor};
-ghost use Rattle.ranks.specs.Ranks.{literalOfRank};
 ghost use Rattle.prefix_lines.specs.Rows.{isDeclared};
-ghost use Rattle.prefix_lines.specs.Lines.{ReadSoFar, LineRead, Within, clauseAdded};
+ghost use Rattle.prefix_lines.specs.Lines.{ReadSoFar, LineRead, Within};
+ghost use Rattle.clause_lines.specs.Clause.{clauseRefusal};
 use dqbf::limits::LITERAL_LIMIT;
 use dqbf::limits::WIDTH_LIMIT;
 use prefix_lines::progress;
@@ -41,31 +38,31 @@ fn all_declared(ranks: &[u32], kinds: &[u8]) -> bool
     true
 }
 
-// The literals of the first `width` ranks as one more formula clause.
-fn add_formula_clause(
-    ranks: &[u32],
-    width: usize,
-    progress: Progress,
-    literals: &mut [i16],
-    ends: &mut [u16],
-) -> Progress
-    requires { ⌜ (width ≤ length (now ranks)) × (width ≤ widthLimit) × RoomFor (progress .state) 1 width 0 × (progress .state .formula .0 < clauseLimit)
-        × (literalLimit ≤ length (now literals)) × (clauseLimit ≤ length (now ends)) × ((i : ℕ) → i < width → getD (now ranks) i 0 ≤ 2 * literalRange + 1) ⌝ }
-    ensures { λ r. ⌜ (r ≡ clauseAdded progress width)
-        × (now (literals .exit) ≡ stored (now (literals .entry)) (progress .state .literals) (map literalOfRank (take width (now (ranks .entry)))))
-        × (now (ends .exit) ≡ List.set (now (ends .entry)) (progress .state .clauses .0) (progress .state .literals + width)) ⌝ }
+// The first test that the clause of the first `width` ranks fails, by its number of refusal; 0 where it passes.
+fn clause_refusal(ranks: &[u32], width: usize, progress: Progress, kinds: &[u8]) -> u32
+    requires { ⌜ (width ≤ length (now ranks)) × Within progress × (variableLimit ≤ length (now kinds)) ⌝ }
+    ensures { λ r. ⌜ r ≡ clauseRefusal (now (ranks .entry)) width progress (now (kinds .entry)) ⌝ }
 {
-    let state = progress.state;
-    let place = state.literals as usize;
-    literals::write_literals(ranks, width, &mut literals[place..]);
-    let ended = adding::end_clause(ends, state, width as u16);
-    let next = adding::count_formula_clause(ended);
-    Progress {
-        phase: progress::CLAUSE_LINES,
-        count: progress.count,
-        places: progress.places,
-        state: next,
+    if width > WIDTH_LIMIT {
+        return refusal::OVER_LIMIT;
     }
+    let state = progress.state;
+    if state.literals as usize + width > LITERAL_LIMIT {
+        return refusal::OVER_LIMIT;
+    }
+    let bound = state.bound;
+    let end = bound.0 as usize;
+    if !all_declared(&ranks[..width], &kinds[..end]) {
+        return refusal::VARIABLE;
+    }
+    if literals::has_pair(ranks, width) {
+        return refusal::COMPLEMENTARY;
+    }
+    let clauses = state.clauses;
+    if clauses.0 >= progress.count {
+        return refusal::CLAUSE_COUNT;
+    }
+    refusal::NONE
 }
 
 // A clause line, as the ranks of its literals.
@@ -86,26 +83,21 @@ pub fn clause_line(
     }
     let mut sorted = [0u32; WIDTH_LIMIT + 1];
     let width = order::insert_all(ranks, ranks.len(), &mut sorted, 0, WIDTH_LIMIT);
-    if width > WIDTH_LIMIT {
-        return progress::refused(progress, refusal::OVER_LIMIT);
+    let number = clause_refusal(&sorted, width, progress, kinds);
+    if number != refusal::NONE {
+        return progress::refused(progress, number);
     }
     let state = progress.state;
-    if state.literals as usize + width > LITERAL_LIMIT {
-        return progress::refused(progress, refusal::OVER_LIMIT);
-    }
-    let bound = state.bound;
-    let end = bound.0 as usize;
-    if !all_declared(&sorted[..width], &kinds[..end]) {
-        return progress::refused(progress, refusal::VARIABLE);
-    }
-    if literals::has_pair(&sorted, width) {
-        return progress::refused(progress, refusal::COMPLEMENTARY);
-    }
-    let clauses = state.clauses;
-    if clauses.0 >= progress.count {
-        return progress::refused(progress, refusal::CLAUSE_COUNT);
-    }
-    let next = add_formula_clause(&sorted, width, progress, literals, ends);
+    let place = state.literals as usize;
+    literals::write_literals(&sorted, width, &mut literals[place..]);
+    let ended = adding::end_clause(ends, state, width as u16);
+    let counted = adding::count_formula_clause(ended);
+    let next = Progress {
+        phase: progress::CLAUSE_LINES,
+        count: progress.count,
+        places: progress.places,
+        state: counted,
+    };
     LineAnswer {
         progress: next,
         refusal: refusal::NONE,

@@ -1,9 +1,12 @@
--- Clause lines: one law for each return of `clause_line`, and what its parts ask.
+-- Clause lines: one law for each return of `clause_refusal` and of `clause_line`, and what their parts ask.
 --     within                             the counts of what was read are within the limits
 --     declared-yes, declared-no          the loop of `all_declared`
 --     ranks-low                          declared variables have literals of 16 bits
---     c-late, c-wide, c-many, c-undeclared, c-clash, c-count, c-read
---     formula-kept, progress-added, literals-added      the parts of `add_formula_clause`
+--     Passes, passes-all                 what a clause with the number 0 passed
+--     r-wide, r-many, r-undeclared, r-clash, r-count, r-none      `clauseRefusal` by the first test that fails
+--     c-late, c-wide, c-many, c-undeclared, c-clash, c-count, c-read      the line by the first test that fails
+--     c-refused, c-taken                 the line by `clauseRefusal`
+--     room, literals-low, formula-kept, progress-added, literals-added      a clause that passes, added
 -- Assumes nothing.
 use mathlib.Core.Path.{_≡_, refl, ap, ap₂, sym, _∙_}
 use mathlib.Core.Logic.{_⊎_, inl, inr}
@@ -12,7 +15,7 @@ use mathlib.Core.List.{List, [], _∷_, _++_, map, append-nil, List·Memᴰ·hea
 use mathlib.Core.Option.{Option, none}
 use Prim.Native.Nat.{ℕ, zero, suc, _+_, _-_, _*_, _/_, _≤_, _<_, min}
 use native.Mathlib.Omega.{arith}
-use borrow.Author.Tests.{lt-ltb, le-ltb, le-leb, lt-leb, eq-eqb, ne-eqb, leb-true, leb-false}
+use borrow.Author.Tests.{lt-ltb, le-ltb, le-leb, lt-leb, eq-eqb, ne-eqb, ltb-true, ltb-false, leb-true, leb-false}
 use borrow.Rule.Slice.PartMut.{putMid}
 use lib.Dec.{leb, ltb, eqb}
 use lib.IntN.{ℤ, natAbs}
@@ -35,13 +38,14 @@ use Rattle.ranks.proofs.Laws.Sorting.{clause-count, clause-front, clause-litera
 use Rattle.tables.specs.Tables.{Tables, tablesOf, entry}
 use Rattle.tables.specs.Spread.{spread, stateOf}
 use Rattle.tables.specs.WellFormed.{allOf}
-use Rattle.tables.specs.Adding.{stored, clauseEnded, formulaCounted, withFormula}
+use Rattle.tables.specs.Adding.{stored, clauseEnded, formulaCounted, RoomFor}
 use Rattle.tables.specs.declared.State.{State}
 use Rattle.dqbf.proofs.Laws.Lists.{nth}
 use Rattle.tables.proofs.Laws.Tests.{all-member}
 use Rattle.tables.proofs.Laws.Rows.{stored-tail}
 use Rattle.tables.proofs.Laws.Entries.{entry-past}
 use Rattle.tables.proofs.Laws.Adding.{formula-state, formula-tables}
+use Rattle.clause_lines.specs.Clause.{clauseRefusal}
 use Rattle.prefix_lines.specs.Pending.{pendingKind, pending}
 use Rattle.prefix_lines.specs.Rows.{isDeclared}
 use Rattle.prefix_lines.specs.Lines.{phaseNumber, progressOf, refusalOf, ReadSoFar, LineRead, Within, clauseAdded}
@@ -112,6 +116,81 @@ sorted-all xs C =
     same-truth (allIn xs (map natAbs (sorted C))) (allIn xs (map natAbs C)) (λ e. in-all xs C (λ l q. all-in xs (sorted C) e l (sorted-holds C l q)))
     (λ e. in-all xs (sorted C) (λ l q. all-in xs C e l (sorted-in C l q)))
 
+-- ---- the tests of a clause line
+
+-- the clause of the first w ranks passes all tests
+pub record Passes (ranks : List ℕ) (w : ℕ) (p : Progress) (kinds : List ℕ) : Type 0 where
+  pub narrow : w ≤ widthLimit
+  pub light : p .state .literals + w ≤ literalLimit
+  pub all : allOf (isDeclared (take (p .state .bound .0) kinds)) (take w ranks) ≡ true
+  pub calm : sideBySide (take w ranks) ≡ false
+  pub few : p .state .clauses .0 < p .count
+
+module _ (ranks : List ℕ) (w : ℕ) (p : Progress) (kinds : List ℕ) where
+  abbrev told : ℕ
+  told = clauseRefusal ranks w p kinds
+
+  abbrev known : Bool
+  known = allOf (isDeclared (take (p .state .bound .0) kinds)) (take w ranks)
+
+  abbrev pair : Bool
+  pair = sideBySide (take w ranks)
+
+  pub r-wide : widthLimit < w → told ≡ 11
+  unfolding clauseRefusal
+  r-wide q = rw (lt-ltb widthLimit w q)
+
+  module _ (narrow : w ≤ widthLimit) where
+    pub r-many : literalLimit < p .state .literals + w → told ≡ 11
+    unfolding clauseRefusal
+    r-many q = rw (le-ltb widthLimit w narrow, lt-ltb literalLimit (p .state .literals + w) q)
+
+    module _ (light : p .state .literals + w ≤ literalLimit) where
+      pub r-undeclared : known ≡ false → told ≡ 12
+      unfolding clauseRefusal
+      r-undeclared q = rw (le-ltb widthLimit w narrow, le-ltb literalLimit (p .state .literals + w) light, q)
+
+      module _ (all : known ≡ true) where
+        pub r-clash : pair ≡ true → told ≡ 13
+        unfolding clauseRefusal
+        r-clash q = rw (le-ltb widthLimit w narrow, le-ltb literalLimit (p .state .literals + w) light, all, q)
+
+        module _ (calm : pair ≡ false) where
+          pub r-count : p .count ≤ p .state .clauses .0 → told ≡ 14
+          unfolding clauseRefusal
+          r-count q = rw (le-ltb widthLimit w narrow, le-ltb literalLimit (p .state .literals + w) light, all, calm, le-leb (p .count) (p .state .clauses .0) q)
+
+          pub r-none : p .state .clauses .0 < p .count → told ≡ 0
+          unfolding clauseRefusal
+          r-none q = rw (le-ltb widthLimit w narrow, le-ltb literalLimit (p .state .literals + w) light, all, calm, lt-leb (p .count) (p .state .clauses .0) q)
+
+  -- what holds of the number in each case holds of it
+  told-by : (P : ℕ → Type 0) → (widthLimit < w → P 11) → (w ≤ widthLimit → literalLimit < p .state .literals + w → P 11)
+      → (w ≤ widthLimit → p .state .literals + w ≤ literalLimit → known ≡ false → P 12)
+      → (w ≤ widthLimit → p .state .literals + w ≤ literalLimit → known ≡ true → pair ≡ true → P 13)
+      → (w ≤ widthLimit → p .state .literals + w ≤ literalLimit → known ≡ true → pair ≡ false → p .count ≤ p .state .clauses .0 → P 14)
+      → (Passes ranks w p kinds → P 0) → P told
+  told-by P wide many undeclared clash count passed =
+      go (either (ltb widthLimit w)) (either (ltb literalLimit (p .state .literals + w))) (either known) (either pair) (either (leb (p .count) (p .state .clauses .0)))
+    where
+      go : (ltb widthLimit w ≡ true) ⊎ (ltb widthLimit w ≡ false)
+          → (ltb literalLimit (p .state .literals + w) ≡ true) ⊎ (ltb literalLimit (p .state .literals + w) ≡ false)
+          → (known ≡ true) ⊎ (known ≡ false) → (pair ≡ true) ⊎ (pair ≡ false)
+          → (leb (p .count) (p .state .clauses .0) ≡ true) ⊎ (leb (p .count) (p .state .clauses .0) ≡ false) → P told
+      go (inl a) b k d e = let x = ltb-true _ _ a in rw (r-wide x) (wide x)
+      go (inr a) (inl b) k d e = let x = ltb-false _ _ a in let y = ltb-true _ _ b in rw (r-many x y) (many x y)
+      go (inr a) (inr b) (inr k) d e = let x = ltb-false _ _ a in let y = ltb-false _ _ b in rw (r-undeclared x y k) (undeclared x y k)
+      go (inr a) (inr b) (inl k) (inl d) e = let x = ltb-false _ _ a in let y = ltb-false _ _ b in rw (r-clash x y k d) (clash x y k d)
+      go (inr a) (inr b) (inl k) (inr d) (inl e) =
+          let x = ltb-false _ _ a in let y = ltb-false _ _ b in let z = leb-true _ _ e in rw (r-count x y k d z) (count x y k d z)
+      go (inr a) (inr b) (inl k) (inr d) (inr e) =
+          let x = ltb-false _ _ a in let y = ltb-false _ _ b in let z = leb-false _ _ e in
+          rw (r-none x y k d z) (passed (record { narrow = x; light = y; all = k; calm = d; few = z }))
+
+  pub passes-all : told ≡ 0 → Passes ranks w p kinds
+  passes-all = told-by (λ n. n ≡ 0 → Passes ranks w p kinds)
+      (λ a e. absurd (omega arith)) (λ a b e. absurd (omega arith)) (λ a b k e. absurd (omega arith)) (λ a b k d e. absurd (omega arith)) (λ a b k d f e. absurd (omega arith)) (λ all e. all)
+
 -- ---- a clause line
 
 module _ {t : Tables} {r : Reader} {p : Progress} {now : Tables} (h : ReadSoFar t r p now) where
@@ -161,36 +240,37 @@ module _ {t : Tables} {r : Reader} {p : Progress} {now : Tables} (h : ReadSoFar 
         pub c-many : literalLimit < p .state .literals + w → LineRead t r (clauseLine C) (record { progress = p; refusal = 11 }) now
         c-many q = c-11 (or-right wide heavy (lt-ltb literalLimit (total (map sorted (φ .clauses)) + length (sorted C)) (omega (arith, width-is, literals-is h))))
 
-        module _ (light : p .state .literals + w ≤ literalLimit) {b : Bool} (known : b ≡ allOf (isDeclared (take (p .state .bound .0) (now .kinds))) (take w out)) where
+        module _ (light : p .state .literals + w ≤ literalLimit) where
           eleven : (wide || heavy) ≡ false
           eleven =
               no-or wide heavy (le-ltb widthLimit (length (sorted C)) (omega (arith, width-is)))
               (le-ltb literalLimit (total (map sorted (φ .clauses)) + length (sorted C)) (omega (arith, width-is, literals-is h)))
 
-          b-is : b ≡ allIn (declared (φ .prefix)) (map natAbs C)
-          b-is = known ∙ rw (clause-front C widthLimit w out put narrow) (ranks-told (sorted C) ∙ sorted-all (declared (φ .prefix)) C)
+          known-is : known out w p (now .kinds) ≡ allIn (declared (φ .prefix)) (map natAbs C)
+          known-is = rw (clause-front C widthLimit w out put narrow) (ranks-told (sorted C) ∙ sorted-all (declared (φ .prefix)) C)
 
-          pub c-undeclared : not b ≡ true → LineRead t r (clauseLine C) (record { progress = p; refusal = 12 }) now
+          pub c-undeclared : known out w p (now .kinds) ≡ false → LineRead t r (clauseLine C) (record { progress = p; refusal = 12 }) now
           unfolding lineTests
           c-undeclared q =
-              line-refused 12 (omega arith) (framed h) (test-passes (refusal 10) _ _ ten ∙ test-passes (refusal 11) _ _ eleven ∙ test-fails 12 _ _ (omega arith) (rw (← b-is) q))
+              line-refused 12 (omega arith) (framed h)
+              (test-passes (refusal 10) _ _ ten ∙ test-passes (refusal 11) _ _ eleven ∙ test-fails 12 _ _ (omega arith) (rw (← known-is, q)))
 
-          module _ (all : not b ≡ false) {c : Bool} (pair : c ≡ sideBySide (take w out)) where
+          module _ (all : known out w p (now .kinds) ≡ true) where
             twelve : not (allIn (declared (φ .prefix)) (map natAbs C)) ≡ false
-            twelve = rw (← b-is) all
+            twelve = rw (← known-is, all)
 
-            c-is : c ≡ clashes (sorted C)
-            c-is = pair ∙ clause-pair C widthLimit w out put narrow
+            pair-is : sideBySide (take w out) ≡ clashes (sorted C)
+            pair-is = clause-pair C widthLimit w out put narrow
 
-            pub c-clash : c ≡ true → LineRead t r (clauseLine C) (record { progress = p; refusal = 13 }) now
+            pub c-clash : sideBySide (take w out) ≡ true → LineRead t r (clauseLine C) (record { progress = p; refusal = 13 }) now
             unfolding lineTests
             c-clash q =
                 line-refused 13 (omega arith) (framed h)
-                (test-passes (refusal 10) _ _ ten ∙ test-passes (refusal 11) _ _ eleven ∙ test-passes (refusal 12) _ _ twelve ∙ test-fails 13 _ _ (omega arith) (sym c-is ∙ q))
+                (test-passes (refusal 10) _ _ ten ∙ test-passes (refusal 11) _ _ eleven ∙ test-passes (refusal 12) _ _ twelve ∙ test-fails 13 _ _ (omega arith) (sym pair-is ∙ q))
 
-            module _ (calm : c ≡ false) where
+            module _ (calm : sideBySide (take w out) ≡ false) where
               thirteen : clashes (sorted C) ≡ false
-              thirteen = sym c-is ∙ calm
+              thirteen = sym pair-is ∙ calm
 
               pub c-count : p .count ≤ p .state .clauses .0 → LineRead t r (clauseLine C) (record { progress = p; refusal = 14 }) now
               unfolding lineTests
@@ -244,11 +324,29 @@ module _ {t : Tables} {r : Reader} {p : Progress} {now : Tables} (h : ReadSoFar 
                       tables = tables-more e f;
                     })
 
--- ---- what `add_formula_clause` leaves
+      -- the line by its number
+      pub c-refused : {n : ℕ} → n ≡ clauseRefusal out w p (now .kinds) → (n ≡ 0 → ⊥) → LineRead t r (clauseLine C) (record { progress = p; refusal = n }) now
+      c-refused e =
+          rw e (told-by out w p (now .kinds) (λ n. (n ≡ 0 → ⊥) → LineRead t r (clauseLine C) (record { progress = p; refusal = n }) now)
+          (λ a z. c-wide a) (λ a b z. c-many a b) (λ a b k z. c-undeclared a b k) (λ a b k d z. c-clash a b k d) (λ a b k d f z. c-count a b k d f) (λ all z. absurd (z refl)))
 
-pub formula-kept : (s : State) (w : ℕ) {e : State} → e ≡ clauseEnded s w → s .formula .0 < clauseLimit → e .formula .0 < clauseLimit
-unfolding clauseEnded
-formula-kept s w q h = rw q h
+      pub c-taken : {q : Progress} {ls : List ℤ} {es : List ℕ} → Passes out w p (now .kinds) → q ≡ clauseAdded p w
+          → ls ≡ stored (now .literals) (p .state .literals) (map literalOfRank (take w out)) → es ≡ set (now .ends) (p .state .clauses .0) (p .state .literals + w)
+          → LineRead t r (clauseLine C) (record { progress = q; refusal = 0 }) (tablesOf ls es (now .sets) (now .kinds))
+      c-taken g = c-read (g .narrow) (g .light) (g .all) (g .calm) (g .few)
+
+-- ---- what a clause that passes needs and leaves
+
+module _ {p : Progress} (counts : Within p) {ranks : List ℕ} {w : ℕ} {kinds : List ℕ} (g : Passes ranks w p kinds) where
+  pub room : RoomFor (p .state) 1 w 0
+  room = record { clauses-fit = omega (arith, counts, g .few); literals-fit = g .light; variables-fit = omega (arith, counts) }
+
+  pub literals-low : w ≤ length ranks → (i : ℕ) → i < w → getD ranks i 0 ≤ 2 * literalRange + 1
+  literals-low fits = ranks-low kinds ranks (p .state .bound .0) w (counts .bound) fits (g .all)
+
+  pub formula-kept : {e : State} → e ≡ clauseEnded (p .state) w → e .formula .0 < clauseLimit
+  unfolding clauseEnded
+  formula-kept q = rw q (omega (arith, counts, g .few))
 
 pub progress-added : (p : Progress) (w : ℕ) {e n : State} → e ≡ clauseEnded (p .state) w → n ≡ formulaCounted e → _≡_ {A = Progress} (record { phase = 2; count = p .count; places = p .places; state = n }) (clauseAdded p w)
 unfolding clauseAdded
