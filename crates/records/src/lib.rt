@@ -60,20 +60,6 @@ fn signed(n: u32) -> i32
     -1 - ((4294967295 - n) as i32)
 }
 
-// Whether bytes 1 to 3 are 0.
-fn zeros_behind_kind(bytes: &[u8]) -> bool
-    requires { ⌜ 4 ≤ length (now bytes) ⌝ }
-    ensures { λ r. ⌜ r ≡ Calculus.zeros (slice 1 4 (now (bytes .entry))) ⌝ }
-{
-    if bytes[1] != 0 {
-        return false;
-    }
-    if bytes[2] != 0 {
-        return false;
-    }
-    bytes[3] == 0
-}
-
 // The record at the front of some bytes; those behind the sixteenth are not read.
 pub fn decode(bytes: &[u8]) -> Decoded
     ensures { λ r. ⌜ decodedIn r ≡ Calculus.recordOf (now (bytes .entry)) ⌝ }
@@ -81,10 +67,8 @@ pub fn decode(bytes: &[u8]) -> Decoded
     if bytes.len() < RECORD_SIZE {
         return Decoded::Malformed;
     }
-    if !zeros_behind_kind(bytes) {
-        return Decoded::Malformed;
-    }
-    let kind = bytes[0];
+    // The kind with the zeros behind it; if one of these bytes is not 0, the number is 256 or more.
+    let kind = number_at(bytes, 0);
     let clause = number_at(bytes, 4);
     let second = number_at(bytes, 8);
     let third = number_at(bytes, 12);
