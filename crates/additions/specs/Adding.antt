@@ -43,6 +43,7 @@ Two C D w = record { clauses = C ∷ D ∷ []; forks = w ∷ [] }
 pub record Splits (C : Clause) (r : Split) : Type 0 where
   pub first : r .first ≡ length (pick (r .left) C)
   pub second : r .second ≡ length (pick (r .right) C)
+  pub narrow : length C ≤ widthLimit
   pub first-narrow : r .first ≤ widthLimit
   pub second-narrow : r .second ≤ widthLimit
 

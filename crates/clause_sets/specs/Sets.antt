@@ -1,11 +1,9 @@
 -- Sets of literals and clauses over the list of the variables' sets, as the table has them.
 -- The model's own (dqbf's specs/Model.antt) are these over `m .sets ++ m .forks` (proofs/Laws/Sets.antt).
--- Offers `setIn`, `clauseSetIn`, `InUse`, `PartOf`, `chosenBy`.
+-- Offers `setIn`, `clauseSetIn`, `InUse`, `PartOf`.
 use mathlib.Core.Path.{_≡_}
-use mathlib.Core.Bool.{cond}
 use mathlib.Core.List.{List, [], _∷_}
 use Prim.Native.Nat.{ℕ, zero, suc, _<_, _≤_}
-use lib.Dec.{eqb}
 use lib.IntN.{ℤ, natAbs}
 use lib.ListN.{length, getD}
 use Rattle.dqbf.specs.Literal.{Clause, _∈_}
@@ -30,7 +28,3 @@ InUse sets C = (l : ℤ) → l ∈ C → (0 < natAbs l) × (natAbs l ≤ length 
 pub record PartOf (sets : List Set) (C : Clause) (r : Part) : Type 0 where
   pub count : r .count ≡ length C
   pub set : r .set ≡ clauseSetIn sets C
-
--- a set where a bit is 1
-unfoldable pub chosenBy : ℕ → Set → Set
-chosenBy bit set = cond (eqb bit 1) set emptySet

@@ -5,9 +5,10 @@ ghost use mathlib.Core.Path.{_≡_};
 ghost use Prim.Native.Nat.{_<_, _≤_};
 ghost use lib.IntN.{natAbs};
 ghost use lib.ListN.{length};
+ghost use Rattle.dqbf.specs.Limits.{widthLimit};
 ghost use Rattle.dqbf.specs.Literal as Literal;
 ghost use Rattle.clauses.specs.Places.{butAt};
-ghost use Rattle.clause_sets.specs.Sets.{setIn, clauseSetIn, chosenBy, InUse, PartOf};
+ghost use Rattle.clause_sets.specs.Sets.{setIn, clauseSetIn, InUse, PartOf};
 
 // The set of a literal's variable.
 fn set_of(literal: i16, sets: &[u64]) -> u64
@@ -44,54 +45,28 @@ pub fn set_without(clause: &[i16], place: usize, sets: &[u64]) -> u64
     words::union(front, clause_set(&clause[next..], sets))
 }
 
-// A word where the bit is 1, and the empty set where it is 0.
-fn chosen(word: u64, bit: u32) -> u64
-    ensures { λ r. ⌜ r ≡ chosenBy bit word ⌝ }
-{
-    if bit == 1 {
-        return word;
-    }
-    0
-}
-
 // How many literals a part of a clause has, and its set.
 pub struct Part {
     pub count: usize,
     pub set: u64,
 }
 
-pub struct Parts {
-    pub left: Part,
-    pub right: Part,
-}
-
-// The parts that two masks pick, bit i the literal at place i. Each set is looked up once, and there is no branch.
-pub fn measure_parts(clause: &[i16], left: u32, right: u32, sets: &[u64]) -> Parts
-    requires { ⌜ InUse (now sets) (now clause) ⌝ }
-    ensures { λ r. ⌜ PartOf (now (sets .entry)) (Literal.pick left (now (clause .entry))) (r .left) × PartOf (now (sets .entry)) (Literal.pick right (now (clause .entry))) (r .right) ⌝ }
+// The part that a mask picks, bit i the literal at place i. The mask loses its lowest bit each time.
+pub fn measure_part(clause: &[i16], mask: u32, sets: &[u64]) -> Part
+    requires { ⌜ InUse (now sets) (now clause) × (length (now clause) ≤ widthLimit) ⌝ }
+    ensures { λ r. ⌜ PartOf (now (sets .entry)) (Literal.pick mask (now (clause .entry))) r ⌝ }
 {
-    let mut i = 0;
-    let mut p = left;
-    let mut q = right;
-    let mut n = 0;
-    let mut m = 0;
-    let mut s = 0;
-    let mut t = 0;
-    while i < clause.len() {
-        let l = clause[i];
-        let set = set_of(l, sets);
-        s = words::union(s, chosen(set, p % 2));
-        t = words::union(t, chosen(set, q % 2));
-        n += (p % 2) as usize;
-        m += (q % 2) as usize;
-        p = p / 2;
-        q = q / 2;
-        i += 1;
+    let n = clause.len();
+    let mut count = 0;
+    let mut united = 0;
+    let mut rest = mask;
+    let mut at = u32::trailing_zeros(mask) as usize;
+    while at < n {
+        let l = clause[at];
+        united = words::union(united, set_of(l, sets));
+        count += 1;
+        rest = rest & (rest - 1);
+        at = u32::trailing_zeros(rest) as usize;
     }
-    let first = Part { count: n, set: s };
-    let second = Part { count: m, set: t };
-    Parts {
-        left: first,
-        right: second,
-    }
+    Part { count, set: united }
 }

@@ -1,9 +1,8 @@
 -- Places in a clause.
--- Offers `placeOf` (the place of a literal), `butAt` (a clause without the literal at a place), `skipped`.
+-- Offers `placeOf` (the place of a literal), `butAt` (a clause without the literal at a place).
 use mathlib.Core.Bool.{cond}
 use mathlib.Core.List.{[], _∷_, _++_}
 use Prim.Native.Nat.{ℕ, suc, _+_}
-use lib.Dec.{ltb}
 use lib.IntN.{ℤ}
 use lib.ListN.{take, drop}
 use Rattle.dqbf.specs.Literal.{Clause, same}
@@ -15,7 +14,3 @@ placeOf l (k ∷ C) = cond (same k l) 0 (suc (placeOf l C))
 
 abbrev pub butAt : ℕ → Clause → Clause
 butAt i C = take i C ++ drop (i + 1) C
-
--- the place in a clause of what is at place i without the literal at place p
-unfoldable pub skipped : ℕ → ℕ → ℕ
-skipped i p = cond (ltb i p) i (i + 1)

@@ -5,8 +5,9 @@ ghost use mathlib.Core.List.{[], _∷_, _++_};
 ghost use Prim.Native.Nat.{_+_, _<_, _≤_};
 ghost use lib.IntN.{natAbs, negℤ};
 ghost use lib.ListN.{length};
+ghost use Rattle.dqbf.specs.Limits.{widthLimit};
 ghost use Rattle.dqbf.specs.Literal as Literal;
-ghost use Rattle.clauses.specs.Places.{butAt, skipped};
+ghost use Rattle.clauses.specs.Places.{butAt};
 ghost use Rattle.clauses.specs.Writing.{Written};
 
 // The clause.
@@ -23,52 +24,31 @@ pub fn write_clause(tail: &mut [i16], clause: &[i16]) -> usize
     place
 }
 
-// The place in a clause of the literal that is at place i where the one at `place` is left out.
-fn skipping(i: usize, place: usize) -> usize
-    requires { ⌜ i < 18446744073709551615 ⌝ }
-    ensures { λ r. ⌜ r ≡ skipped i place ⌝ }
-{
-    if i < place {
-        return i;
-    }
-    i + 1
-}
-
-// The clause without the literal at a place.
+// The clause without the literal at a place: what stands before it, and what stands behind it.
 pub fn write_without(tail: &mut [i16], clause: &[i16], place: usize) -> usize
     requires { ⌜ (place < length (now clause)) × (length (now clause) ≤ length (now tail) + 1) ⌝ }
     ensures { λ r. ⌜ Written (butAt place (now (clause .entry))) (now (tail .entry)) (now (tail .exit)) r ⌝ }
 {
-    let n = clause.len() - 1;
-    let mut count = 0;
-    while count < n {
-        let from = skipping(count, place);
-        let l = clause[from];
-        tail[count] = l;
-        count += 1;
-    }
-    count
+    let next = place + 1;
+    let front = write_clause(tail, &clause[..place]);
+    front + write_clause(&mut tail[front..], &clause[next..])
 }
 
-// A part of a fork: the literals that a mask picks, bit i the one at place i, and the new literal behind them.
-// Each literal is written, and what does not belong to the part is written over: there is no branch.
+// A part of a fork: the literals that a mask picks, bit i the one at place i, and the new literal behind them. The mask loses its lowest bit each time.
 fn write_part(tail: &mut [i16], clause: &[i16], mask: u32, new: i16) -> usize
-    requires { ⌜ length (Literal.pick mask (now clause)) < length (now tail) ⌝ }
+    requires { ⌜ (length (now clause) ≤ widthLimit) × (length (Literal.pick mask (now clause)) < length (now tail)) ⌝ }
     ensures { λ r. ⌜ Written (Literal.pick mask (now (clause .entry)) ++ (new ∷ [])) (now (tail .entry)) (now (tail .exit)) r ⌝ }
 {
     let n = clause.len();
-    let mut i = 0;
     let mut width = 0;
     let mut rest = mask;
-    while i < n {
-        let l = clause[i];
+    let mut at = u32::trailing_zeros(mask) as usize;
+    while at < n {
+        let l = clause[at];
         tail[width] = l;
-        i += 1;
-        let picked = rest % 2;
-        rest = rest / 2;
-        if picked == 1 {
-            width += 1;
-        }
+        width += 1;
+        rest = rest & (rest - 1);
+        at = u32::trailing_zeros(rest) as usize;
     }
     tail[width] = new;
     width + 1
@@ -76,7 +56,8 @@ fn write_part(tail: &mut [i16], clause: &[i16], mask: u32, new: i16) -> usize
 
 // The two clauses of a fork, one behind the other: the left part with the new variable, the right part with its negation.
 pub fn write_fork(tail: &mut [i16], clause: &[i16], left: u32, right: u32, variable: i16) -> usize
-    requires { ⌜ (length (Literal.pick left (now clause)) + length (Literal.pick right (now clause)) + 2 ≤ length (now tail)) × (natAbs variable < 32768) ⌝ }
+    requires { ⌜ (length (now clause) ≤ widthLimit) × (length (Literal.pick left (now clause)) + length (Literal.pick right (now clause)) + 2 ≤ length (now tail))
+        × (natAbs variable < 32768) ⌝ }
     ensures { λ r. ⌜ Written ((Literal.pick left (now (clause .entry)) ++ (variable ∷ [])) ++ (Literal.pick right (now (clause .entry)) ++ (negℤ variable ∷ [])))
         (now (tail .entry)) (now (tail .exit)) r ⌝ }
 {

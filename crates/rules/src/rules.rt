@@ -132,9 +132,8 @@ pub fn fork(
     }
     let variables = state.variables;
     let used = variables.0 as usize;
-    let parts = clause_sets::measure_parts(x, left, right, &sets[..used]);
-    let first = parts.left;
-    let second = parts.right;
+    let first = clause_sets::measure_part(x, left, &sets[..used]);
+    let second = clause_sets::measure_part(x, right, &sets[..used]);
     if words::inside(first.set, second.set) {
         return adding::refused(state, refusal::COMPARABLE);
     }

@@ -1,12 +1,12 @@
 -- Sets of variables and clauses over a list of sets (specs/Sets.antt), a literal at a time, and over a model.
 -- Offers: `set-at`, `set-there` for a variable; `set-more`, `set-end`, `set-parts` for a clause's set; `front-in-use`, `back-in-use`; `Measuring`, where a loop that
--- measures a part stands, with `measuring-start`, `measuring-next`, `measuring-done`; `model-set`, `model-clause-set`: over a model's sets they are the model's own; `reads-single`.
+-- measures a part stands, with `measuring-start`, `measuring-more`, `measuring-done`; `model-set`, `model-clause-set`: over a model's sets they are the model's own; `reads-single`.
 use mathlib.Core.Path.{_≡_, refl, ap, sym, _∙_}
 use mathlib.Core.Logic.{_≢_}
 use mathlib.Core.Bool.{Bool, true, false, _&&_, or-assoc, true≢false}
 use mathlib.Core.List.{List, [], _∷_, _++_, Memᴰ·append-left, Memᴰ·append-right}
-use Prim.Native.Nat.{ℕ, zero, suc, _+_, _-_, _/_, _%_, _<_, _≤_, _^_}
-use native.Mathlib.Nat.{add-zero, zero-add, mod-lt}
+use Prim.Native.Nat.{ℕ, zero, suc, _+_, _-_, _<_, _≤_, _^_}
+use native.Mathlib.Nat.{add-zero, zero-add}
 use native.Mathlib.Omega.{arith}
 use borrow.Author.Tests.{eq-eqb, ne-eqb, eqb-true}
 use lib.Bits.{or-zero-l, or-zero-r}
@@ -17,15 +17,14 @@ use lib.Signed.{mag}
 use mir.Syntax.{w16}
 use mir.Val.{SFits, toZ, ofZ}
 use mir.Facts.{toZ-ofZ}
-use Rattle.dqbf.specs.Literal.{Clause, pick}
+use Rattle.dqbf.specs.Literal.{Clause}
 use Rattle.dqbf.specs.Set.{Set, emptySet, single, union, common, inside, bit}
 use Rattle.dqbf.specs.Model.{Model, setOf, clauseSet}
 use Rattle.dqbf.specs.Rules.{reads}
 use Rattle.dqbf.proofs.Laws.Lists.{nth}
 use Rattle.dqbf.proofs.Laws.Signed.{var-kept}
 use Rattle.dqbf.proofs.Laws.Words.{bit-and, bit-or, bit-ext, bit-single, bit-zero}
-use Rattle.clauses.proofs.Laws.Clauses.{pick-taken, pick-passed}
-use Rattle.clause_sets.specs.Sets.{setIn, clauseSetIn, chosenBy, InUse, PartOf}
+use Rattle.clause_sets.specs.Sets.{setIn, clauseSetIn, InUse, PartOf}
 
 -- ---- unions
 
@@ -110,30 +109,13 @@ module _ (sets : List Set) where
   measuring-start C = record { width = sym (zero-add (length C)); united = sym (or-zero-l (clauseSetIn sets C)) }
 
   module _ {C : Clause} {count : ℕ} {set : Set} {rest : Clause} (w : Measuring C count set rest) where
-    measuring-passed : {more : Clause} → rest ≡ more → Measuring C count set more
-    measuring-passed e = rw e at w
-
-    measuring-more : {k : ℤ} {more : Clause} → rest ≡ k ∷ more → mag k < 2 ^ 15 → {S : Set} → S ≡ setIn sets (natAbs (toZ w16 (ofZ w16 k))) → Measuring C (count + 1) (union set S) more
-    measuring-more e f q = record { width = omega (arith, w .width, ap length e); united = w .united ∙ set-more e f q set refl }
+    pub measuring-more : {k : ℤ} {more : Clause} → rest ≡ k ∷ more → mag k < 2 ^ 15 → {S : Set} → S ≡ setIn sets (natAbs (toZ w16 (ofZ w16 k))) → {U : Set} → U ≡ union set S
+        → Measuring C (count + 1) U more
+    measuring-more e f q u = record { width = omega (arith, w .width, ap length e); united = w .united ∙ set-more e f q set u }
 
     pub measuring-done : rest ≡ [] → PartOf sets C (record { count = count; set = set })
     unfolding clauseSetIn
     measuring-done e = record { count = sym (w .width ∙ rw e (add-zero count)); set = sym (w .united ∙ rw e (or-zero-r set)) }
-
-  -- the next literal, where a mask picks it or not
-  pub measuring-next : {C D R : Clause} {k : ℤ} {count : ℕ} {set : Set} (mask : ℕ) → Measuring C count set (pick mask D) → D ≡ k ∷ R → mag k < 2 ^ 15 → {S : Set}
-      → S ≡ setIn sets (natAbs (toZ w16 (ofZ w16 k))) → {T : Set} → T ≡ chosenBy (mask % 2) S → {U : Set} → U ≡ union set T → Measuring C (count + mask % 2) U (pick (mask / 2) R)
-  unfolding chosenBy
-  measuring-next {C} {D} {R} {k} {count} {set} mask w e f {S} q {T} c {U} u = go (mask % 2) refl (mod-lt mask (omega arith))
-    where
-      go : (b : ℕ) → mask % 2 ≡ b → b < 2 → Measuring C (count + mask % 2) U (pick (mask / 2) R)
-      go zero z h =
-          let same : U ≡ set = u ∙ rw (c, z) (or-zero-r set) in
-          rw (z, add-zero count, same) (measuring-passed w (pick-passed mask e (λ t. absurd (omega (arith, t, z)))))
-      go (suc zero) z h =
-          let more : U ≡ union set S = u ∙ rw (c, z) in
-          rw (z, more) (measuring-more w (pick-taken mask e z) f q)
-      go (suc (suc b)) z h = absurd (omega arith)
 
 -- ---- over the sets of a model
 

@@ -1,27 +1,29 @@
 -- The operations on one clause (dqbf's specs/Literal.antt, specs/Places.antt), a literal at a time: `placeOf`, `pick`, `covers`.
--- Of the first two: what it is where a loop has nothing before it, D ≡ [], and by its literal in front, D ≡ k ∷ R.
+-- Of the first: what it is where a loop has nothing before it, D ≡ [], and by its literal in front, D ≡ k ∷ R. Of a part: by the lowest bit of its mask.
 -- `place-holds`, `without-place`: what the place of a literal tells of `holds` and `without`.
 use mathlib.Core.Path.{_≡_, refl, ap, sym, _∙_}
 use mathlib.Core.Logic.{_⊎_, inl, inr, _≢_}
 use mathlib.Core.Bool.{Bool, true, false, cond, _&&_, _||_}
-use mathlib.Core.List.{[], _∷_, List·Memᴰ·head, List·Memᴰ·tail}
+use mathlib.Core.List.{[], _∷_, _++_, List·Memᴰ·head, List·Memᴰ·tail}
 use Prim.Native.Nat.{ℕ, zero, suc, _+_, _-_, _*_, _/_, _%_, _≤_, _<_, _^_, max}
-use native.Mathlib.Nat.{mod-lt, one-mul, pow-suc, suc-add}
+use native.Mathlib.Nat.{mod-lt, one-mul, pow-suc, suc-add, not-suc-le-zero, le-of-suc-le-suc}
 use native.Mathlib.Decide.{decLt}
 use native.Mathlib.Omega.{arith}
 use borrow.Author.Tests.{eq-eqb, ne-eqb, eqb-true, eqb-false, lt-ltb, le-ltb}
-use lib.Bits.{bitOr, or-step}
+use lib.Bits.{bitAnd, bitOr, or-step}
+use lib.Count.{trailingZeros, under, trailing-of-zero}
 use lib.Dec.{eqb, ltb, eqb·suc-zero}
-use lib.IntN.{ℤ, natAbs}
-use lib.ListN.{length}
+use lib.IntN.{ℤ, pos, natAbs}
+use lib.ListN.{length, getD}
 use lib.Pow.{pow-pos, shl-exact}
 use Rattle.dqbf.specs.Limits.{widthLimit}
 use Rattle.dqbf.specs.Literal.{Clause, _∈_, same, holds, without, pick, covers}
 use Rattle.dqbf.specs.Set.{bit}
 use Rattle.dqbf.specs.Valid.{Ascending}
+use Rattle.dqbf.proofs.Laws.Clauses.{pick-short}
 use Rattle.dqbf.proofs.Laws.Literals.{same-is, same-same, same-not}
 use Rattle.dqbf.proofs.Laws.Tests.{either, or-no}
-use Rattle.dqbf.proofs.Laws.Words.{bit-or, bit-ext, bit-zero}
+use Rattle.dqbf.proofs.Laws.Words.{bit-or, bit-ext, bit-zero, digit, lowest-odd, lowest-even}
 use Rattle.clauses.specs.Places.{placeOf, butAt}
 
 -- ---- placeOf
@@ -77,19 +79,67 @@ module _ (l : ℤ) where
 
 -- ---- pick
 
-module _ (mask : ℕ) where
-  pub pick-end : {D : Clause} → D ≡ [] → pick mask D ≡ []
-  unfolding pick
-  pick-end e = rw e
+-- a part has no more literals than the clause
+pub pick-few : (mask : ℕ) (C : Clause) → length (pick mask C) ≤ length C
+pick-few mask C = go (pick-short mask C)
+  where
+    go : (pick mask C ≡ C) ⊎ (length (pick mask C) < length C) → length (pick mask C) ≤ length C
+    go (inl e) = omega (arith, ap length e)
+    go (inr h) = omega arith
 
-  module _ {D R : Clause} {k : ℤ} (e : D ≡ k ∷ R) where
-    pub pick-taken : mask % 2 ≡ 1 → pick mask D ≡ k ∷ pick (mask / 2) R
-    unfolding pick
-    pick-taken q = rw (e, eq-eqb (mask % 2) 1 q)
+-- the literal at the mask's lowest bit is the first one picked; d bits are looked at
 
-    pub pick-passed : mask % 2 ≢ 1 → pick mask D ≡ pick (mask / 2) R
-    unfolding pick
-    pick-passed n = rw (e, ne-eqb (mask % 2) 1 n)
+bit-there : (d n w : ℕ) → n ≤ d → trailingZeros d w < n → 0 < w
+bit-there d n zero h k = absurd (omega (arith, trailing-of-zero d))
+bit-there d n (suc w) h k = omega arith
+
+pick-first : (d : ℕ) (C : Clause) (w : ℕ) → length C ≤ d → trailingZeros d w < length C → pick w C ≡ getD C (trailingZeros d w) (pos 0) ∷ pick (bitAnd w (w - 1)) C
+unfolding pick trailingZeros
+pick-first d [] w h k = absurd (not-suc-le-zero k)
+pick-first zero (l ∷ C) w h k = absurd (not-suc-le-zero h)
+pick-first (suc d) (l ∷ C) w h k = go (digit w) k (pick-first d C (w / 2) (omega arith))
+  where
+    go : (w % 2 ≡ 0) ⊎ (w % 2 ≡ 1) → under (w % 2) (trailingZeros d (w / 2)) < suc (length C)
+        → (trailingZeros d (w / 2) < length C → pick (w / 2) C ≡ getD C (trailingZeros d (w / 2)) (pos 0) ∷ pick (bitAnd (w / 2) (w / 2 - 1)) C)
+        → pick w (l ∷ C) ≡ getD (l ∷ C) (under (w % 2) (trailingZeros d (w / 2))) (pos 0) ∷ pick (bitAnd w (w - 1)) (l ∷ C)
+    go (inl p) k r =
+        let t : trailingZeros d (w / 2) < length C = le-of-suc-le-suc (rw p at k) in
+        let half = bit-there d (length C) (w / 2) (omega arith) t in
+        let e : bitAnd (w / 2) (w / 2 - 1) * 2 % 2 ≡ 0 = omega arith in
+        let f : bitAnd (w / 2) (w / 2 - 1) * 2 / 2 ≡ bitAnd (w / 2) (w / 2 - 1) = omega arith in
+        rw (p, lowest-even w p (omega arith), e, f) (r t)
+    go (inr p) k r =
+        let e : w / 2 * 2 % 2 ≡ 0 = omega arith in
+        let f : w / 2 * 2 / 2 ≡ w / 2 = omega arith in
+        rw (p, lowest-odd w p, e, f)
+
+pick-none : (d : ℕ) (C : Clause) (w : ℕ) → length C ≤ d → length C ≤ trailingZeros d w → pick w C ≡ []
+unfolding pick trailingZeros
+pick-none d [] w h k = refl
+pick-none zero (l ∷ C) w h k = absurd (not-suc-le-zero h)
+pick-none (suc d) (l ∷ C) w h k = go (digit w) k (pick-none d C (w / 2) (omega arith))
+  where
+    go : (w % 2 ≡ 0) ⊎ (w % 2 ≡ 1) → suc (length C) ≤ under (w % 2) (trailingZeros d (w / 2)) → (length C ≤ trailingZeros d (w / 2) → pick (w / 2) C ≡ []) → pick w (l ∷ C) ≡ []
+    go (inl p) k r = let t : suc (length C) ≤ suc (trailingZeros d (w / 2)) = rw p at k in rw p (r (omega arith))
+    go (inr p) k r = let t : suc (length C) ≤ 0 = rw p at k in absurd (omega arith)
+
+-- the lowest bit of a mask of 32 bits is at `at`
+module _ (C : Clause) (w at : ℕ) (narrow : length C ≤ widthLimit) (lowest : at ≡ trailingZeros 32 w) where
+  pub lowest-there : at < length C → 0 < w
+  lowest-there h = bit-there 32 (length C) w narrow (rw lowest at h)
+
+  pub lowest-picked : at < length C → pick w C ≡ getD C at (pos 0) ∷ pick (bitAnd w (w - 1)) C
+  lowest-picked h = rw lowest (pick-first 32 C w narrow (rw lowest at h))
+
+  pub none-picked : length C ≤ at → pick w C ≡ []
+  none-picked h = pick-none 32 C w narrow (rw lowest at h)
+
+  -- the same with one more literal behind those picked
+  pub lowest-before : (l : ℤ) → at < length C → pick w C ++ (l ∷ []) ≡ getD C at (pos 0) ∷ (pick (bitAnd w (w - 1)) C ++ (l ∷ []))
+  lowest-before l h = ap (λ (D : Clause). D ++ (l ∷ [])) (lowest-picked h)
+
+  pub last-left : (l : ℤ) → length C ≤ at → pick w C ++ (l ∷ []) ≡ l ∷ []
+  last-left l h = ap (λ (D : Clause). D ++ (l ∷ [])) (none-picked h)
 
 -- ---- covers: the bits of the two masks together are those below the clause's length
 

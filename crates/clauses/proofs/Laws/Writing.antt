@@ -1,8 +1,7 @@
 -- Writing a list to the front of another (specs/Writing.antt), an element at a time, and over the tail of a table that is lent for it. Any element type.
--- Offers: `Copying`, where a writer stands, with `copying-start`, `copying-kept`, `copying-passed`, `copying-done`; `Writing`, that it left the rest as it was,
--- with `writing-start`, `writing-more`, `writing-done`; `Parting`, but for the element right behind, with `parting-start`, `parting-room`, `parting-kept`,
--- `parting-passed`, `parting-done`; of what was written, `copied-length`, `copied-within`, `written-copied`, `written-behind`; `tail-room`, what a writer requires that is
--- lent the tail of a table from n on.
+-- Offers: `Copying`, where a writer stands, with `copying-start`, `copying-kept`, `copying-done`; `Writing`, that it left the rest as it was,
+-- with `writing-start`, `writing-more`, `writing-room`, `writing-done`; of what was written, `copied-length`, `copied-within`, `written-as`, `written-copied`, `written-behind`;
+-- `tail-room`, what a writer requires that is lent the tail of a table from n on.
 use mathlib.Core.Path.{_≡_, refl, ap, sym, _∙_}
 use mathlib.Core.List.{List, [], _∷_, _++_, append-nil}
 use Prim.Native.Nat.{ℕ, suc, _+_, _-_, _<_, _≤_}
@@ -27,7 +26,6 @@ module _ {A : Type 0} where
   copying-start ys xs = record { within = omega arith; same = refl; parts = refl }
 
   module _ {ys xs zs : List A} {count : ℕ} {rest : List A} (w : Copying ys xs zs count rest) where
-    -- an element is written that belongs to ys, or one that does not, which the next is written over
     pub copying-kept : {v y : A} {more : List A} → count < length zs → rest ≡ y ∷ more → v ≡ y → Copying ys xs (set zs count v) (count + 1) more
     copying-kept {y = y} {more} h e q =
         rw q
@@ -36,15 +34,6 @@ module _ {A : Type 0} where
           same = length-set zs count y ∙ w .same;
           parts = w .parts ∙ rw (e, add-one count, take-suc-set zs count y h) (sym (append-snoc (take count zs) y more));
         })
-
-    pub copying-passed : (v : A) {more : List A} → rest ≡ more → Copying ys xs (set zs count v) count more
-    copying-passed v e =
-        let h : count ≤ count = omega arith in
-        record {
-          within = omega (arith, w .within, length-set zs count v);
-          same = length-set zs count v ∙ w .same;
-          parts = w .parts ∙ rw (e, take-set-le count zs count v h);
-        }
 
     pub copying-done : rest ≡ [] → Copied ys zs count
     copying-done e =
@@ -70,51 +59,22 @@ module _ {A : Type 0} where
           behind = rw (drop-set-lt (count + 1) zs count v k, ← drop-drop 1 count zs, ← drop-drop 1 count xs, w .behind);
         }
 
-    pub writing-done : rest ≡ [] → Written ys xs zs count
-    writing-done e =
-        let done : Copied ys zs count = copying-done (w .copied) e in
-        record { count = done .count; left = sym (take-append-drop count zs) ∙ rw (done .front, w .behind, done .count) }
-
-  -- ---- writing a part, behind which one more element will be written
-
-  pub record Parting (ys xs zs : List A) (count : ℕ) (rest : List A) : Type 0 where
-    pub copied : Copying ys xs zs count rest
-    pub behind : drop (count + 1) zs ≡ drop (count + 1) xs
-
-  pub parting-start : (ys xs : List A) → Parting ys xs xs 0 ys
-  parting-start ys xs = record { copied = copying-start ys xs; behind = refl }
-
-  module _ {ys xs zs : List A} {count : ℕ} {rest : List A} (w : Parting ys xs zs count rest) (room : length ys < length xs) where
-    pub parting-room : count < length zs
-    parting-room =
+    -- an element is left to be written, and there is room for all
+    pub writing-room : {y : A} {more : List A} → length ys ≤ length xs → rest ≡ y ∷ more → count < length zs
+    writing-room room e =
         omega (
           arith,
           ap length (w .copied .parts),
           length-append (take count zs) rest,
           length-take-le count zs (w .copied .within),
           w .copied .same,
+          ap length e,
         )
 
-    abbrev next : count < count + 1
-    next = omega arith
-
-    pub parting-kept : {v y : A} {more : List A} → rest ≡ y ∷ more → v ≡ y → Parting ys xs (set zs count v) (count + 1) more
-    parting-kept {v} e q = record {
-      copied = copying-kept (w .copied) parting-room e q;
-      behind = rw (drop-set-lt (count + 1 + 1) zs count v (omega arith), ← drop-drop 1 (count + 1) zs, ← drop-drop 1 (count + 1) xs, w .behind);
-    }
-
-    pub parting-passed : (v : A) {more : List A} → rest ≡ more → Parting ys xs (set zs count v) count more
-    parting-passed v e = record { copied = copying-passed (w .copied) v e; behind = drop-set-lt (count + 1) zs count v next ∙ w .behind }
-
-    pub parting-done : {v y : A} → rest ≡ [] → v ≡ y → Written (ys ++ (y ∷ [])) xs (set zs count v) (count + 1)
-    parting-done {y = y} e q =
+    pub writing-done : rest ≡ [] → Written ys xs zs count
+    writing-done e =
         let done : Copied ys zs count = copying-done (w .copied) e in
-        let total : length (ys ++ (y ∷ [])) ≡ count + 1 = omega (arith, length-append ys (y ∷ []), done .count) in
-        record {
-          count = sym total;
-          left = rw (q, total, set-split zs count y parting-room, done .front, ← w .behind, add-one count) (sym (append-snoc ys y (drop (suc count) zs)));
-        }
+        record { count = done .count; left = sym (take-append-drop count zs) ∙ rw (done .front, w .behind, done .count) }
 
   -- ---- what was written
 
@@ -126,6 +86,9 @@ module _ {A : Type 0} where
     copied-within = omega (arith, copied-length, length-take n zs)
 
   module _ {ys xs zs : List A} {n : ℕ} (w : Written ys xs zs n) where
+    pub written-as : {us : List A} → ys ≡ us → Written us xs zs n
+    written-as e = rw e at w
+
     -- what was written stands in front
     pub written-copied : Copied ys zs n
     written-copied = record { count = w .count; front = rw (w .count, w .left) (take-append-seam ys (drop (length ys) xs)) }

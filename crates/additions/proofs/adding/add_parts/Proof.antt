@@ -71,7 +71,7 @@ part-write-fork-end c = search needs
 
 -- src/adding.rt:125:5
 write-fork-requires : tie.Need-write-fork-requires
-write-fork-requires c κs = (simp (length-take, length-drop) (omega (arith, fork-room _ _ (c .before .before .before .before .before .before .before .before .before .before .before .pre .0) (pick (c .before .before .before .before .before .before .before .before .before .before .before .args .split .left) (c .before .before .before .before .before .before .before .before .before .before .before .args .clause .now)) (pick (c .before .before .before .before .before .before .before .before .before .before .before .args .split .right) (c .before .before .before .before .before .before .before .before .before .before .before .args .clause .now)) (c .before .before .before .before .before .before .before .before .before .before .before .args .split .set) (c .before .before .before .before .before .before .before .before .before .before .before .pre .1 .first) (c .before .before .before .before .before .before .before .before .before .before .before .pre .1 .second) (c .before .before .before .before .before .is-full .ensures) (c .before .before .before .before .if1 .left))), new-small _ (fork-variable _ _ (c .before .before .before .before .before .before .before .before .before .before .before .pre .0) (pick (c .before .before .before .before .before .before .before .before .before .before .before .args .split .left) (c .before .before .before .before .before .before .before .before .before .before .before .args .clause .now)) (pick (c .before .before .before .before .before .before .before .before .before .before .before .args .split .right) (c .before .before .before .before .before .before .before .before .before .before .before .args .clause .now)) (c .before .before .before .before .before .before .before .before .before .before .before .args .split .set) (c .before .before .before .before .before .before .before .before .before .before .before .pre .1 .first) (c .before .before .before .before .before .before .before .before .before .before .before .pre .1 .second) (c .before .before .before .before .before .is-full .ensures) (c .before .before .before .before .if1 .left)))
+write-fork-requires c κs = (c .before .before .before .before .before .before .before .before .before .before .before .pre .1 .narrow, simp (length-take, length-drop) (omega (arith, fork-room _ _ (c .before .before .before .before .before .before .before .before .before .before .before .pre .0) (pick (c .before .before .before .before .before .before .before .before .before .before .before .args .split .left) (c .before .before .before .before .before .before .before .before .before .before .before .args .clause .now)) (pick (c .before .before .before .before .before .before .before .before .before .before .before .args .split .right) (c .before .before .before .before .before .before .before .before .before .before .before .args .clause .now)) (c .before .before .before .before .before .before .before .before .before .before .before .args .split .set) (c .before .before .before .before .before .before .before .before .before .before .before .pre .1 .first) (c .before .before .before .before .before .before .before .before .before .before .before .pre .1 .second) (c .before .before .before .before .before .is-full .ensures) (c .before .before .before .before .if1 .left))), new-small _ (fork-variable _ _ (c .before .before .before .before .before .before .before .before .before .before .before .pre .0) (pick (c .before .before .before .before .before .before .before .before .before .before .before .args .split .left) (c .before .before .before .before .before .before .before .before .before .before .before .args .clause .now)) (pick (c .before .before .before .before .before .before .before .before .before .before .before .args .split .right) (c .before .before .before .before .before .before .before .before .before .before .before .args .clause .now)) (c .before .before .before .before .before .before .before .before .before .before .before .args .split .set) (c .before .before .before .before .before .before .before .before .before .before .before .pre .1 .first) (c .before .before .before .before .before .before .before .before .before .before .before .pre .1 .second) (c .before .before .before .before .before .is-full .ensures) (c .before .before .before .before .if1 .left)))
 
 -- src/adding.rt:126:59
 cast-add-fork : tie.Need-cast-add-fork

@@ -48,7 +48,7 @@ negated-requires c κs = search needs
 write-part-requires-2 : tie.Need-write-part-requires-2
 write-part-requires-2 c κs =
     let first = simp length-append at (c .before .before .before .write-part .ensures .count) in
-    tail-room (c .before .before .before .write-part .last .0) (c .before .before .before .write-part .result) (omega arith)
+    (c .before .before .before .before .before .pre .0, tail-room (c .before .before .before .write-part .last .0) (c .before .before .before .write-part .result) (omega arith))
 
 -- src/writing.rt:39:5
 add-result : tie.Need-add-result

@@ -1,93 +1,93 @@
-use Prim.Native.Nat.{_-_, _≤_}
+use mathlib.Core.Path.{_≡_, refl, ap}
+use lib.IntN.{ℤ}
+use mathlib.Core.List.{[], _∷_, _++_}
+use Prim.Native.Nat.{_-_, _≤_, _<_}
 use native.Mathlib.Omega.{arith}
 use borrow.Author.Needs.{needs}
-use lib.IntN.{pos}
-use lib.ListN.{length, drop}
+use lib.Bits.{bitAnd, and-le-r}
+use lib.Count.{trailingZeros, trailing-le}
+use lib.ListN.{length, length-set, length-append}
+use mir.Syntax.{w16}
+use mir.Val.{toZ, ofZ}
 use mir.Facts.{toZ-ofZ}
 use Rattle.dqbf.specs.Literal.{pick}
 use Rattle.dqbf.proofs.Laws.Signed.{kept16}
-use Rattle.clauses.proofs.Laws.Places.{list-front, list-end}
-use Rattle.clauses.proofs.Laws.Clauses.{pick-taken, pick-passed, pick-end}
-use Rattle.clauses.proofs.Laws.Writing.{Parting, parting-start, parting-room, parting-kept, parting-passed, parting-done}
-use lib.ListN.{length-set}
+use Rattle.clauses.proofs.Laws.Clauses.{lowest-there, lowest-before, last-left}
+use Rattle.clauses.proofs.Laws.Writing.{Writing, writing-start, writing-more, writing-room, writing-done, written-as}
 use Rattle.clauses.proofs.writing.write_part.Statement.{statement}
 use Rattle.clauses.proofs.writing.write_part.Tie as tie
 use Rattle.clauses.proofs.writing.write_part.Reads as reads
 use Rattle.clauses.proofs.writing.write_part.Lts as lts
 
 abbrev Inv-loop : tie.InvT-loop
-Inv-loop tail₀ clause mask new n i₀ width₀ rest₀ tail i width rest = (i ≤ length clause) × (width ≤ i) × Parting (pick mask clause) tail₀ tail width (pick rest (drop i clause))
+Inv-loop tail₀ clause mask new n width₀ rest₀ at₀ tail width rest at = (at ≡ trailingZeros 32 rest) × Writing (pick mask clause ++ (toZ w16 new ∷ [])) tail₀ tail width (pick rest clause ++ (toZ w16 new ∷ []))
 
 abbrev μ-loop : tie.MeasureT-loop
-μ-loop tail₀ clause mask new n i₀ width₀ rest₀ tail i width rest = length clause - i
+μ-loop tail₀ clause mask new n width₀ rest₀ at₀ tail width rest at = rest
 
--- src/writing.rt:62:5
+-- src/writing.rt:62:18
+cast-at : tie.Need-cast-at Inv-loop μ-loop
+cast-at c = omega (arith, trailing-le 32 (c .args .mask))
+
+-- src/writing.rt:63:5
 loop-holds : tie.Need-loop-holds Inv-loop μ-loop
-loop-holds c = (search needs, search needs, parting-start _ _)
+loop-holds c = (refl, writing-start _ _)
 
--- src/writing.rt:63:17
+-- src/writing.rt:64:17
 mul-l : tie.Need-mul-l Inv-loop μ-loop
 mul-l c = search needs
 
--- src/writing.rt:63:17
+-- src/writing.rt:64:17
 shared-slice-copy-out-l : tie.Need-shared-slice-copy-out-l Inv-loop μ-loop
 shared-slice-copy-out-l c = search needs
 
--- src/writing.rt:64:9
+-- src/writing.rt:65:9
 mul-l-2 : tie.Need-mul-l-2 Inv-loop μ-loop
-mul-l-2 c =
-    let room = parting-room (c .before .before .loop .inv .2) (c .before .before .before .pre) in
-    search needs
-
--- src/writing.rt:64:9
-slice-set-from-l : tie.Need-slice-set-from-l Inv-loop μ-loop
-slice-set-from-l c = parting-room (c .before .before .loop .inv .2) (c .before .before .before .pre)
+mul-l-2 c = let room = writing-room (c .before .before .loop .inv .1) (omega (arith, length-append (pick (c .before .before .before .args .mask) (c .before .before .before .args .clause .now)) (toZ w16 (ofZ w16 (c .before .before .before .args .new)) ∷ []))) (lowest-before (c .before .before .before .args .clause .now) (c .before .before .loop .rest) (c .before .before .loop .at) (c .before .before .before .pre .0) (c .before .before .loop .inv .0) (toZ w16 (ofZ w16 (c .before .before .before .args .new))) (omega arith)) in search needs
 
 -- src/writing.rt:65:9
-add-i : tie.Need-add-i Inv-loop μ-loop
-add-i c = search needs
+slice-set-from-l : tie.Need-slice-set-from-l Inv-loop μ-loop
+slice-set-from-l c = writing-room (c .before .before .loop .inv .1) (omega (arith, length-append (pick (c .before .before .before .args .mask) (c .before .before .before .args .clause .now)) (toZ w16 (ofZ w16 (c .before .before .before .args .new)) ∷ []))) (lowest-before (c .before .before .before .args .clause .now) (c .before .before .loop .rest) (c .before .before .loop .at) (c .before .before .before .pre .0) (c .before .before .loop .inv .0) (toZ w16 (ofZ w16 (c .before .before .before .args .new))) (omega arith))
 
--- src/writing.rt:69:13
+-- src/writing.rt:66:9
 add-width : tie.Need-add-width Inv-loop μ-loop
-add-width c = search needs
+add-width c = let room = writing-room (c .before .before .loop .inv .1) (omega (arith, length-append (pick (c .before .before .before .args .mask) (c .before .before .before .args .clause .now)) (toZ w16 (ofZ w16 (c .before .before .before .args .new)) ∷ []))) (lowest-before (c .before .before .before .args .clause .now) (c .before .before .loop .rest) (c .before .before .loop .at) (c .before .before .before .pre .0) (c .before .before .loop .inv .0) (toZ w16 (ofZ w16 (c .before .before .before .args .new))) (omega arith)) in search needs
 
--- src/writing.rt:62:5
+-- src/writing.rt:67:24
+sub-rest : tie.Need-sub-rest Inv-loop μ-loop
+sub-rest c = let some = lowest-there (c .before .before .before .args .clause .now) (c .before .before .loop .rest) (c .before .before .loop .at) (c .before .before .before .pre .0) (c .before .before .loop .inv .0) (omega arith) in search needs
+
+-- src/writing.rt:68:14
+cast-at-2 : tie.Need-cast-at-2 Inv-loop μ-loop
+cast-at-2 c = omega (arith, trailing-le 32 (bitAnd (c .before .before .loop .rest) (c .before .before .loop .rest - 1)))
+
+-- src/writing.rt:63:5
 loop-less : tie.Need-loop-less Inv-loop μ-loop
-loop-less c = search needs
+loop-less c = let some = lowest-there (c .before .before .before .args .clause .now) (c .before .before .loop .rest) (c .before .before .loop .at) (c .before .before .before .pre .0) (c .before .before .loop .inv .0) (omega arith) in omega (arith, and-le-r (c .before .before .loop .rest) (c .before .before .loop .rest - 1))
 
--- src/writing.rt:62:5
+-- src/writing.rt:63:5
 loop-again : tie.Need-loop-again Inv-loop μ-loop
-loop-again c = (search needs, search needs, parting-kept (c .before .before .before .loop .inv .2) (c .before .before .before .before .pre) (pick-taken _ (list-front (c .before .before .before .before .args .clause .now) (c .before .before .before .loop .i) (pos 0) (omega arith)) (c .if1 .taken)) (kept16 (c .before .l .given)))
+loop-again c = let next = lowest-before (c .before .before .before .args .clause .now) (c .before .before .loop .rest) (c .before .before .loop .at) (c .before .before .before .pre .0) (c .before .before .loop .inv .0) (toZ w16 (ofZ w16 (c .before .before .before .args .new))) (omega arith) in let room = writing-room (c .before .before .loop .inv .1) (omega (arith, length-append (pick (c .before .before .before .args .mask) (c .before .before .before .args .clause .now)) (toZ w16 (ofZ w16 (c .before .before .before .args .new)) ∷ []))) next in (refl, writing-more (c .before .before .loop .inv .1) room next (kept16 (c .l .given)))
 
--- src/writing.rt:62:5
-loop-less-2 : tie.Need-loop-less-2 Inv-loop μ-loop
-loop-less-2 c = search needs
-
--- src/writing.rt:62:5
-loop-again-2 : tie.Need-loop-again-2 Inv-loop μ-loop
-loop-again-2 c = (search needs, search needs, parting-passed (c .before .before .before .loop .inv .2) (c .before .before .before .before .pre) _ (pick-passed _ (list-front (c .before .before .before .before .args .clause .now) (c .before .before .before .loop .i) (pos 0) (omega arith)) (c .if1 .left)))
-
--- src/writing.rt:72:5
+-- src/writing.rt:70:5
 mul-new : tie.Need-mul-new Inv-loop μ-loop
-mul-new c =
-    let room = parting-room (c .before .loop .inv .2) (c .before .before .pre) in
-    search needs
+mul-new c = let room = writing-room (c .before .loop .inv .1) (omega (arith, length-append (pick (c .before .before .args .mask) (c .before .before .args .clause .now)) (toZ w16 (ofZ w16 (c .before .before .args .new)) ∷ []))) (last-left (c .before .before .args .clause .now) (c .before .loop .rest) (c .before .loop .at) (c .before .before .pre .0) (c .before .loop .inv .0) (toZ w16 (ofZ w16 (c .before .before .args .new))) (omega arith)) in search needs
 
--- src/writing.rt:72:5
+-- src/writing.rt:70:5
 slice-set-from-new : tie.Need-slice-set-from-new Inv-loop μ-loop
-slice-set-from-new c = parting-room (c .before .loop .inv .2) (c .before .before .pre)
+slice-set-from-new c = writing-room (c .before .loop .inv .1) (omega (arith, length-append (pick (c .before .before .args .mask) (c .before .before .args .clause .now)) (toZ w16 (ofZ w16 (c .before .before .args .new)) ∷ []))) (last-left (c .before .before .args .clause .now) (c .before .loop .rest) (c .before .loop .at) (c .before .before .pre .0) (c .before .loop .inv .0) (toZ w16 (ofZ w16 (c .before .before .args .new))) (omega arith))
 
--- src/writing.rt:73:5
+-- src/writing.rt:71:5
 add-result : tie.Need-add-result Inv-loop μ-loop
-add-result c = search needs
+add-result c = let room = writing-room (c .before .loop .inv .1) (omega (arith, length-append (pick (c .before .before .args .mask) (c .before .before .args .clause .now)) (toZ w16 (ofZ w16 (c .before .before .args .new)) ∷ []))) (last-left (c .before .before .args .clause .now) (c .before .loop .rest) (c .before .loop .at) (c .before .before .pre .0) (c .before .loop .inv .0) (toZ w16 (ofZ w16 (c .before .before .args .new))) (omega arith)) in search needs
 
--- src/writing.rt:54:1
+-- src/writing.rt:55:1
 same-length : tie.Need-same-length Inv-loop μ-loop
-same-length c = simp length-set (c .before .loop .inv .2 .copied .same)
+same-length c = simp length-set (c .before .loop .inv .1 .copied .same)
 
--- src/writing.rt:54:1
+-- src/writing.rt:55:1
 returns : tie.Need-returns Inv-loop μ-loop
-returns c = parting-done (c .before .loop .inv .2) (c .before .before .pre) (pick-end _ (list-end (c .before .before .args .clause .now) (c .before .loop .i) (omega arith))) (toZ-ofZ (c .before .before .fits .new))
+returns c = let last = last-left (c .before .before .args .clause .now) (c .before .loop .rest) (c .before .loop .at) (c .before .before .pre .0) (c .before .loop .inv .0) (toZ w16 (ofZ w16 (c .before .before .args .new))) (omega arith) in let room = writing-room (c .before .loop .inv .1) (omega (arith, length-append (pick (c .before .before .args .mask) (c .before .before .args .clause .now)) (toZ w16 (ofZ w16 (c .before .before .args .new)) ∷ []))) last in written-as (writing-done (writing-more (c .before .loop .inv .1) room last refl) refl) (ap (λ (l : ℤ). pick (c .before .before .args .mask) (c .before .before .args .clause .now) ++ (l ∷ [])) (toZ-ofZ (c .before .before .fits .new)))
 
 pub write-part-spec : {M : Type 1} → statement M
 write-part-spec =
@@ -95,17 +95,17 @@ write-part-spec =
     (tie.spec
     Inv-loop
     μ-loop
+    cast-at
     loop-holds
     mul-l
     shared-slice-copy-out-l
     mul-l-2
     slice-set-from-l
-    add-i
     add-width
+    sub-rest
+    cast-at-2
     loop-less
     loop-again
-    loop-less-2
-    loop-again-2
     mul-new
     slice-set-from-new
     add-result
