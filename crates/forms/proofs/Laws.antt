@@ -3,6 +3,7 @@ pub mod Pieces
 pub mod Numbers
 pub mod Bridge
 pub mod Bytewise
+pub mod Listed
 pub mod Gathering
 pub mod Forms
 pub mod Shapes

@@ -1,16 +1,17 @@
 -- Working definitions: the calculus' definitions (dqbf, specs/Text.antt and specs/Reading.antt) in the shape that the loops walk.
 -- Each says which official definition it is proved equal to; the proofs are in proofs/Laws/Bridge.antt and proofs/Laws/Pieces.antt.
--- Offers `lengthBefore`, `leading`, `words`, `wordsOf`, `digitsFrom`, `plusOne`, `rankOf`, `entryOf`, `isDigit`, `mayLead`, `ranked`, `keyword`, `after`, `headerShape`, `Cut`, `Gathered`, `Listing`.
+-- Offers `lengthBefore`, `leading`, `words`, `wordsOf`, `digitsFrom`, `plusOne`, `rankOf`, `entryOf`, `isDigit`, `minusOf`, `digitOf`, `ranked`, `Leading`, `keyword`, `after`, `headerShape`, `Cut`, `Gathered`, `Listing`.
 use mathlib.Core.Path.{_≡_}
 use mathlib.Core.Bool.{Bool, true, false, cond, _&&_}
 use mathlib.Core.List.{List, [], _∷_}
 use mathlib.Core.Option.{Option, none, some}
 use Prim.Native.Nat.{ℕ, suc, _+_, _-_, _*_, _≤_, _<_}
 use lib.Dec.{eqb, leb, ltb}
-use lib.ListN.{length, take, drop}
+use lib.ListN.{length, take, drop, getD}
 use Rattle.dqbf.specs.Literal.{rank}
-use Rattle.dqbf.specs.Text.{space, minus, pieces, isEmpty, allDigits, valueFrom, variableOf, literalOf}
+use Rattle.dqbf.specs.Text.{space, minus, pieces, isEmpty, allDigits, valueFrom, variableOf, literalOf, prepend, closed}
 use Rattle.forms.specs.declared.text.Token.{Token}
+use Rattle.forms.specs.declared.form.Listed.{Listed}
 use Rattle.forms.specs.declared.form.Gathering.{Gathering}
 use Rattle.forms.specs.declared.form.Gathering.the-variants.{Count, Open}
 use Rattle.forms.specs.declared.form.Shape.{Shape}
@@ -85,18 +86,31 @@ rankOf w = each rank (literalOf w)
 unfoldable pub entryOf : Bool → List ℕ → Option ℕ
 entryOf signed w = cond signed (rankOf w) (variableOf w)
 
--- ---- the bytes of a list: v is the number that the digits of a token make so far, 0 where there is none yet, and n is 1 behind a minus
+-- ---- the numbers of a list
 
 unfoldable pub isDigit : ℕ → Bool
 isDigit b = leb 48 b && leb b 57
 
--- the minus of a literal
-unfoldable pub mayLead : Bool → ℕ → ℕ → ℕ → Bool
-mayLead signed v n b = signed && (eqb b minus && (eqb v 0 && eqb n 0))
+-- the minus of a literal, counted
+unfoldable pub minusOf : Bool → ℕ → ℕ
+minusOf signed b = cond (signed && eqb b minus) 1 0
 
--- the variable, or where signs may stand the rank of the literal
+-- the digit at the front; 0 also where none is there
+unfoldable pub digitOf : List ℕ → ℕ
+digitOf [] = 0
+digitOf (b ∷ bs) = cond (isDigit b) (b - 48) 0
+
+-- the variable, or where signs may stand the rank of the literal; n is 1 behind a minus
 unfoldable pub ranked : Bool → ℕ → ℕ → ℕ
 ranked signed v n = cond signed (2 * v + n) v
+
+-- What stands at a place of a list: a number that a space follows, in front of the list behind that space.
+-- Where none does, there is a space, the closing 0, or no list.
+pub record Leading (signed : Bool) (line : List ℕ) (at : ℕ) (t : Listed) : Type 0 where
+  pub found : 0 < t .number → (at + 2 ≤ t .next) × (t .next ≤ length line)
+      × (closed (entryOf signed) (wordsOf (drop at line)) ≡ prepend (some (t .number)) (closed (entryOf signed) (wordsOf (drop (t .next) line))))
+  pub missing : t .number ≡ 0 → (getD line at 0 ≡ space → ⊥) → (getD line at 0 ≡ 48 → at + 1 ≡ length line → ⊥)
+      → closed (entryOf signed) (wordsOf (drop at line)) ≡ none
 
 -- ---- answers
 

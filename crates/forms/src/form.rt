@@ -7,7 +7,7 @@ ghost use Rattle.dqbf.specs.Bytes.{bytes, sameBytes};
 ghost use Rattle.dqbf.specs.Text.{space, closed, literalOf, variableOf};
 ghost use Rattle.dqbf.specs.Reading.{headerForm, clauseForm, tokensForm, formOf};
 ghost use Rattle.forms.specs.Shapes.{shapeOf, Formed};
-ghost use Rattle.forms.specs.Working.{keyword, wordsOf, after, entryOf, mayLead, ranked, headerShape, Gathered, Listing};
+ghost use Rattle.forms.specs.Working.{keyword, wordsOf, after, entryOf, minusOf, digitOf, ranked, headerShape, Leading, Gathered, Listing};
 
 // The form of a line; a list of numbers with how many it has.
 pub enum Shape {
@@ -26,11 +26,34 @@ pub enum Gathering {
     Open,
 }
 
-// Whether a byte is the minus of a literal: none of its digits, and no minus, stand before it.
-fn leads(signed: bool, value: u32, minus: u32, b: u8) -> bool
-    ensures { λ r. ⌜ r ≡ mayLead signed value minus b ⌝ }
+// A number of a list, and the place behind the space that follows it; the number 0 where none stands.
+pub struct Listed {
+    pub number: u32,
+    pub next: usize,
+}
+
+// 1 where a byte is the minus of a literal.
+fn minus_of(signed: bool, b: u8) -> u32
+    ensures { λ r. ⌜ r ≡ minusOf signed b ⌝ }
 {
-    signed & ((b == 45) & ((value == 0) & (minus == 0)))
+    if signed & (b == 45) {
+        return 1;
+    }
+    0
+}
+
+// The digit at i; 0 also where none is there.
+fn digit_at(line: &[u8], i: usize) -> u32
+    ensures { λ r. ⌜ r ≡ digitOf (drop i (now (line .entry))) ⌝ }
+{
+    if line.len() <= i {
+        return 0;
+    }
+    let b = line[i];
+    if crate::number::is_digit(b) {
+        return crate::number::wide(b - 48);
+    }
+    0
 }
 
 // The variable, or where signs may stand the rank of the literal; `minus` is 1 behind a minus.
@@ -44,44 +67,63 @@ fn entry(signed: bool, value: u32, minus: u32) -> u32
     value
 }
 
+// The number of a list that stands at a place. Whether a minus leads it is no branch: the processor could not guess its outcome.
+fn number_at(line: &[u8], at: usize, signed: bool) -> Listed
+    requires { ⌜ at < length (now line) ⌝ }
+    ensures { λ r. ⌜ Leading signed (now (line .entry)) at r ⌝ }
+{
+    let missing = Listed {
+        number: 0,
+        next: at,
+    };
+    let minus = minus_of(signed, line[at]);
+    let first = at + minus as usize;
+    let mut value = digit_at(line, first);
+    if value == 0 {
+        return missing;
+    }
+    let mut i = first + 1;
+    while i < line.len() {
+        let b = line[i];
+        i += 1;
+        if b == 32 {
+            let number = entry(signed, value, minus);
+            return Listed { number, next: i };
+        }
+        if crate::number::is_digit(b) {
+            value = value * 10 + crate::number::wide(b - 48);
+        } else {
+            return missing;
+        }
+        if value >= 100000 {
+            return missing;
+        }
+    }
+    missing
+}
+
 // The variables, or where signs may stand the ranks of the literals, that a line lists from i on before its closing 0.
-// `value` is the number that the digits of a token make so far, 0 between two tokens.
 fn gather(line: &[u8], i: usize, signed: bool, numbers: &mut [u32]) -> Gathering
     requires { ⌜ (i ≤ length (now line)) × (length (now line) ≤ 2 * length (now numbers)) ⌝ }
     ensures { λ r. ⌜ Gathered (closed (entryOf signed) (wordsOf (drop i (now (line .entry))))) r (now (numbers .exit)) ⌝ }
 {
     let mut at = i;
     let mut n = 0;
-    let mut value: u32 = 0;
-    let mut minus: u32 = 0;
     while at < line.len() {
-        let b = line[at];
-        at += 1;
-        if crate::number::is_digit(b) {
-            value = value * 10 + crate::number::wide(b - 48);
-            if value == 0 {
-                if minus == 0 {
-                    if at == line.len() {
-                        return Gathering::Count(n);
-                    }
-                }
-                return Gathering::Open;
-            }
-            if value >= 100000 {
-                return Gathering::Open;
-            }
-        } else if b == 32 {
-            if value != 0 {
-                numbers[n] = entry(signed, value, minus);
-                n += 1;
-                value = 0;
-                minus = 0;
-            } else if minus != 0 {
-                return Gathering::Open;
-            }
-        } else if leads(signed, value, minus, b) {
-            minus = 1;
+        let t = number_at(line, at, signed);
+        let x = t.number;
+        if x != 0 {
+            numbers[n] = x;
+            n += 1;
+            at = t.next;
+        } else if line[at] == 32 {
+            at += 1;
         } else {
+            if line[at] == 48 {
+                if at + 1 == line.len() {
+                    return Gathering::Count(n);
+                }
+            }
             return Gathering::Open;
         }
     }

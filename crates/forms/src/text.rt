@@ -1,7 +1,7 @@
 // Lines and tokens.
 ghost use mathlib.Core.Path.{_≡_};
-ghost use mathlib.Core.Bool.{false};
-ghost use Prim.Native.Nat.{_+_, _≤_};
+ghost use Prim.Native.Nat.{_+_, _*_, _≤_, _<_};
+ghost use lib.Dec.{ltb};
 ghost use lib.ListN.{length, drop};
 ghost use Rattle.dqbf.specs.Text.{space};
 ghost use Rattle.forms.specs.Shapes.{lineLength};
@@ -24,7 +24,7 @@ fn length_before(bytes: &[u8], b: u8) -> usize
 // Whether the byte b is one of the n from i on: each is looked at, so that the processor compares them at once.
 fn block_has(bytes: &[u8], i: usize, n: usize, b: u8) -> bool
     requires { ⌜ i + n ≤ length (now bytes) ⌝ }
-    ensures { λ r. ⌜ (r ≡ false → lengthBefore b (drop i (now (bytes .entry))) ≡ n + lengthBefore b (drop (i + n) (now (bytes .entry)))) ⌝ }
+    ensures { λ r. ⌜ r ≡ ltb (lengthBefore b (drop i (now (bytes .entry)))) n ⌝ }
 {
     let mut found = false;
     let mut k = 0;
@@ -36,23 +36,10 @@ fn block_has(bytes: &[u8], i: usize, n: usize, b: u8) -> bool
     found
 }
 
-// Behind the n bytes from i on, if there are so many and b is none of them; i otherwise.
-fn skip_block(bytes: &[u8], i: usize, n: usize, b: u8) -> usize
-    requires { ⌜ i ≤ length (now bytes) ⌝ }
-    ensures { λ r. ⌜ (r ≤ length (now (bytes .entry))) × (i + lengthBefore b (drop i (now (bytes .entry))) ≡ r + lengthBefore b (drop r (now (bytes .entry)))) ⌝ }
-{
-    if bytes.len() - i < n {
-        return i;
-    }
-    if block_has(bytes, i, n, b) {
-        return i;
-    }
-    i + n
-}
-
 // How many bytes stand in the blocks of sixteen before the first one that has the byte b.
 fn blocks_before(bytes: &[u8], b: u8) -> usize
-    ensures { λ r. ⌜ (r ≤ length (now (bytes .entry))) × (lengthBefore b (now (bytes .entry)) ≡ r + lengthBefore b (drop r (now (bytes .entry)))) ⌝ }
+    ensures { λ r. ⌜ (r ≤ length (now (bytes .entry))) × (lengthBefore b (now (bytes .entry)) ≡ r + lengthBefore b (drop r (now (bytes .entry))))
+        × (r + 16 ≤ length (now (bytes .entry)) → lengthBefore b (drop r (now (bytes .entry))) < 16) ⌝ }
 {
     let mut i = 0;
     while bytes.len() - i >= 16 {
@@ -64,15 +51,37 @@ fn blocks_before(bytes: &[u8], b: u8) -> usize
     i
 }
 
+// Where the half begins, of the 2 * n bytes from i on, that has the first byte b.
+fn half_with(bytes: &[u8], i: usize, n: usize, b: u8) -> usize
+    requires { ⌜ (i + n ≤ length (now bytes)) × (lengthBefore b (drop i (now bytes)) < 2 * n) ⌝ }
+    ensures { λ r. ⌜ (r ≤ i + n) × (i + lengthBefore b (drop i (now (bytes .entry))) ≡ r + lengthBefore b (drop r (now (bytes .entry)))) × (lengthBefore b (drop r (now (bytes .entry))) < n) ⌝ }
+{
+    if block_has(bytes, i, n, b) {
+        return i;
+    }
+    i + n
+}
+
+// Where the first byte b stands, which is one of the sixteen from i on. Halves are chosen and nothing is branched on: the processor could not guess the outcomes.
+fn place_in_block(bytes: &[u8], i: usize, b: u8) -> usize
+    requires { ⌜ (i + 16 ≤ length (now bytes)) × (lengthBefore b (drop i (now bytes)) < 16) ⌝ }
+    ensures { λ r. ⌜ r ≡ i + lengthBefore b (drop i (now (bytes .entry))) ⌝ }
+{
+    let eight = half_with(bytes, i, 8, b);
+    let four = half_with(bytes, eight, 4, b);
+    let two = half_with(bytes, four, 2, b);
+    half_with(bytes, two, 1, b)
+}
+
 // The length of the first line of a text, up to its line feed; of the whole text where there is none.
 pub fn line_length(text: &[u8]) -> usize
     ensures { λ r. ⌜ r ≡ lineLength (now (text .entry)) ⌝ }
 {
-    let first = blocks_before(text, 10);
-    let second = skip_block(text, first, 8, 10);
-    let third = skip_block(text, second, 4, 10);
-    let passed = skip_block(text, third, 2, 10);
-    passed + length_before(&text[passed..], 10)
+    let passed = blocks_before(text, 10);
+    if text.len() - passed < 16 {
+        return passed + length_before(&text[passed..], 10);
+    }
+    place_in_block(text, passed, 10)
 }
 
 // How many spaces lead.

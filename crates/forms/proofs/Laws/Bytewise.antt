@@ -15,12 +15,16 @@ use Rattle.dqbf.specs.Limits.{digitLimit}
 use Rattle.dqbf.specs.Literal.{rank}
 use Rattle.dqbf.specs.Text.{space, minus, onto, pieces, isEmpty, allDigits, valueFrom, numberOf, notZero, variableOf, literalOf, isZero, prepend, closed}
 use Rattle.dqbf.proofs.Laws.Tests.{and-left, and-right}
-use Rattle.forms.specs.Working.{isNil, words, wordsOf, each, rankOf, entryOf, isDigit, mayLead, ranked}
+use Rattle.forms.specs.Working.{isNil, words, wordsOf, each, rankOf, entryOf, isDigit, ranked}
 use Rattle.forms.proofs.Laws.Numbers.{ten-more, ten-le}
 use Rattle.forms.proofs.Laws.Pieces.{pieces-some, some-words}
 use Rattle.forms.proofs.Laws.Bridge.{closed-none, closed-last, closed-more}
 
 -- ---- what the bytes of a list come to, behind a number v and a minus n
+
+-- the minus of a literal
+unfoldable pub mayLead : Bool → ℕ → ℕ → ℕ → Bool
+mayLead signed v n b = signed && (eqb b minus && (eqb v 0 && eqb n 0))
 
 -- the rest of a token: `tokenFrom signed 0 0` is `entryOf signed`
 unfoldable tokenFrom : Bool → ℕ → ℕ → List ℕ → Option ℕ
@@ -47,7 +51,7 @@ in-none true true = refl
 in-none true false = refl
 in-none false b = refl
 
-in-two : (a b c : Bool) → (a && b) ≡ false → (a && (b && c)) ≡ false
+pub in-two : (a b c : Bool) → (a && b) ≡ false → (a && (b && c)) ≡ false
 in-two true true c h = absurd (true≢false h)
 in-two true false c h = refl
 in-two false b c h = refl
@@ -80,7 +84,7 @@ ten-low j v d h = rw (add-one, pow-suc 10 j) (omega arith)
 
 -- ---- the rest of a token whose number has begun
 
-no-lead : (signed : Bool) (v n b : ℕ) → 0 < v → mayLead signed v n b ≡ false
+pub no-lead : (signed : Bool) (v n b : ℕ) → 0 < v → mayLead signed v n b ≡ false
 unfolding mayLead
 no-lead signed v n b h = rw (ne-eqb v 0 (λ z. omega arith)) (in-none signed (eqb b minus))
 
@@ -165,7 +169,7 @@ unfolding tokenFrom numberOf notZero
 fresh signed n [] lead = refl
 fresh signed n (b ∷ bs) lead = fresh-cons signed n b bs (lead b)
 
-no-second : (signed : Bool) (v n b : ℕ) → 0 < n → mayLead signed v n b ≡ false
+pub no-second : (signed : Bool) (v n b : ℕ) → 0 < n → mayLead signed v n b ≡ false
 unfolding mayLead
 no-second signed v n b h = rw (ne-eqb n 0 (λ z. omega arith), and-false (eqb v 0)) (in-none signed (eqb b minus))
 

@@ -1,19 +1,19 @@
 -- A list of numbers read from the front and written to a slice: one law for each answer of `gather`.
-use mathlib.Core.Path.{_≡_, refl, ap, _∙_}
-use mathlib.Core.Bool.{Bool, true, false, and-false}
+use mathlib.Core.Path.{_≡_, refl, sym, ap, _∙_}
+use mathlib.Core.Bool.{Bool}
 use mathlib.Core.List.{List, [], _∷_, _++_, append-nil}
 use mathlib.Core.Option.{Option, none, some}
-use Prim.Native.Nat.{ℕ, _+_, _-_, _*_, _≤_, _<_}
+use Prim.Native.Nat.{ℕ, _+_, _≤_, _<_}
 use native.Mathlib.Numerals.{add-one}
 use native.Mathlib.Omega.{arith}
-use lib.Dec.{eqb}
-use lib.ListN.{length, take, drop, getD, set, drop-of-length-le}
-use lib.Seq.{drop-cons, length-take-le, take-suc-set, append-snoc}
-use borrow.Author.Tests.{eq-eqb, ne-eqb, lt-ltb, le-ltb}
-use Rattle.dqbf.specs.Text.{space, prepend, closed}
-use Rattle.forms.specs.Working.{isNil, wordsOf, entryOf, isDigit, mayLead, ranked, entries, countOf, Gathered}
+use lib.ListN.{length, take, drop, getD, set}
+use lib.Seq.{length-take-le, take-suc-set, append-snoc}
+use Rattle.dqbf.specs.Text.{space, prepend}
+use Rattle.forms.specs.Working.{isDigit, entries, countOf, Leading, Gathered}
+use Rattle.forms.specs.declared.form.Listed.{Listed}
 use Rattle.forms.specs.declared.form.Gathering.the-variants.{Count, Open}
-use Rattle.forms.proofs.Laws.Bytewise.{listFrom, list-is}
+use Rattle.forms.proofs.Laws.Bytewise.{list-is}
+use Rattle.forms.proofs.Laws.Listed.{listAt, list-end, list-space, list-closed}
 
 -- what was gathered, in front of what is still to be read
 unfoldable pub behind : List ℕ → Option (List ℕ) → Option (List ℕ)
@@ -40,70 +40,26 @@ gathered-none : (o : Option (List ℕ)) (out : List ℕ) → o ≡ none → Gath
 unfolding countOf entries
 gathered-none o out e = record { count = rw e; front = rw e }
 
-pub gather-none : (signed : Bool) (out l : List ℕ) → closed (entryOf signed) (wordsOf l) ≡ behind (take 0 out) (listFrom signed 0 0 l)
-gather-none signed out l = list-is signed l ∙ behind-nil out (listFrom signed 0 0 l)
+pub gather-none : (out : List ℕ) (o : Option (List ℕ)) → o ≡ behind (take 0 out) o
+gather-none out o = behind-nil out o
 
-rest-nil : (l : List ℕ) (i : ℕ) → i ≡ length l → isNil (drop i l) ≡ true
-unfolding isNil
-rest-nil l i e = let h : length l ≤ i = omega arith in rw (drop-of-length-le l h)
-
-rest-some : (l : List ℕ) (i : ℕ) → i < length l → isNil (drop i l) ≡ false
-unfolding isNil
-rest-some l i h = rw (drop-cons l i 0 h)
-
--- Those before `at` are read: n entries of `out` were gathered, v is the number so far, m tells of a minus, and the whole comes to o.
-module _ (signed : Bool) (line out : List ℕ) (n at v m : ℕ) (o : Option (List ℕ)) (fits : n ≤ length out) (so-far : o ≡ behind (take n out) (listFrom signed v m (drop at line))) where
+-- Those before `at` are read: n entries of `out` were gathered, and the whole comes to o.
+module _ (signed : Bool) (line out : List ℕ) (n at : ℕ) (o : Option (List ℕ)) (fits : n ≤ length out) (so-far : o ≡ behind (take n out) (listAt signed line at)) where
   pub gather-end : length line ≤ at → Gathered o Open out
-  unfolding behind listFrom
-  gather-end h = gathered-none o out (so-far ∙ rw (drop-of-length-le line h))
+  unfolding behind
+  gather-end h = gathered-none o out (so-far ∙ rw (list-end signed line at 0 0 (listAt signed line at) (list-is signed (drop at line)) h))
 
-  module _ (inside : at < length line) where
-    cut : drop at line ≡ getD line at 0 ∷ drop (at + 1) line
-    cut = rw (add-one) (drop-cons line at 0 inside)
+  module _ (t : Listed) (leading : Leading signed line at t) where
+    pub gather-number : 0 < t .number → n < length out → o ≡ behind (take (n + 1) (set out n (t .number))) (listAt signed line (t .next))
+    gather-number h room = so-far ∙ ap (behind (take n out)) (leading .found h .2) ∙ behind-more out n (t .number) (listAt signed line (t .next)) room
 
-    -- a digit
-    module _ (d : ℕ) (e : d ≡ getD line at 0 - 48) (digit : isDigit (getD line at 0) ≡ true) where
-      pub gather-done : v * 10 + d ≡ 0 → m ≡ 0 → at + 1 ≡ length line → Gathered o (Count n) out
-      unfolding behind listFrom
-      gather-done z k h = gathered-some o n out fits (so-far ∙ rw (cut, digit, ← e, eq-eqb (v * 10 + d) 0 z, eq-eqb m 0 k, rest-nil line (at + 1) h))
+    pub gather-bad : t .number ≡ 0 → (getD line at 0 ≡ space → ⊥) → (getD line at 0 ≡ 48 → at + 1 ≡ length line → ⊥) → Gathered o Open out
+    unfolding behind
+    gather-bad z apart more = gathered-none o out (so-far ∙ rw (leading .missing z apart more))
 
-      pub gather-early : v * 10 + d ≡ 0 → (at + 1 ≡ length line → ⊥) → Gathered o Open out
-      unfolding behind listFrom
-      gather-early z h = gathered-none o out (so-far ∙ rw (cut, digit, ← e, eq-eqb (v * 10 + d) 0 z, rest-some line (at + 1) (omega arith), and-false (eqb m 0)))
+  pub gather-space : at < length line → getD line at 0 ≡ space → o ≡ behind (take n out) (listAt signed line (at + 1))
+  gather-space h s = so-far ∙ ap (behind (take n out)) (list-space signed line at 0 0 (listAt signed line at) (list-is signed (drop at line)) h s refl refl ∙ sym (list-is signed (drop (at + 1) line)))
 
-      pub gather-minus-zero : v * 10 + d ≡ 0 → (m ≡ 0 → ⊥) → Gathered o Open out
-      unfolding behind listFrom
-      gather-minus-zero z k = gathered-none o out (so-far ∙ rw (cut, digit, ← e, eq-eqb (v * 10 + d) 0 z, ne-eqb m 0 k))
-
-      pub gather-long : 100000 ≤ v * 10 + d → Gathered o Open out
-      unfolding behind listFrom
-      gather-long h = gathered-none o out (so-far ∙ rw (cut, digit, ← e, ne-eqb (v * 10 + d) 0 (λ z. omega arith), le-ltb (v * 10 + d) 100000 h))
-
-      pub gather-digit : (v * 10 + d ≡ 0 → ⊥) → v * 10 + d < 100000 → o ≡ behind (take n out) (listFrom signed (v * 10 + d) m (drop (at + 1) line))
-      unfolding listFrom
-      gather-digit z h = so-far ∙ rw (cut, digit, ← e, ne-eqb (v * 10 + d) 0 z, lt-ltb (v * 10 + d) 100000 h)
-
-    module _ (other : isDigit (getD line at 0) ≡ false) where
-      -- a space
-      pub gather-entry : getD line at 0 ≡ space → (v ≡ 0 → ⊥) → (x : ℕ) → x ≡ ranked signed v m → n < length out
-          → o ≡ behind (take (n + 1) (set out n x)) (listFrom signed 0 0 (drop (at + 1) line))
-      unfolding listFrom
-      gather-entry s z x e room =
-          so-far ∙ rw (cut, other, eq-eqb (getD line at 0) space s, ne-eqb v 0 z, ← e) (behind-more out n x (listFrom signed 0 0 (drop (at + 1) line)) room)
-
-      pub gather-lone : getD line at 0 ≡ space → v ≡ 0 → (m ≡ 0 → ⊥) → Gathered o Open out
-      unfolding behind listFrom
-      gather-lone s z k = gathered-none o out (so-far ∙ rw (cut, other, eq-eqb (getD line at 0) space s, eq-eqb v 0 z, ne-eqb m 0 k))
-
-      pub gather-skip : getD line at 0 ≡ space → v ≡ 0 → m ≡ 0 → o ≡ behind (take n out) (listFrom signed v m (drop (at + 1) line))
-      unfolding listFrom
-      gather-skip s z k = so-far ∙ rw (cut, other, eq-eqb (getD line at 0) space s, eq-eqb v 0 z, eq-eqb m 0 k)
-
-      -- a minus, or any other byte
-      pub gather-lead : (getD line at 0 ≡ space → ⊥) → mayLead signed v m (getD line at 0) ≡ true → o ≡ behind (take n out) (listFrom signed v 1 (drop (at + 1) line))
-      unfolding listFrom
-      gather-lead s l = so-far ∙ rw (cut, other, ne-eqb (getD line at 0) space s, l)
-
-      pub gather-bad : (getD line at 0 ≡ space → ⊥) → mayLead signed v m (getD line at 0) ≡ false → Gathered o Open out
-      unfolding behind listFrom
-      gather-bad s l = gathered-none o out (so-far ∙ rw (cut, other, ne-eqb (getD line at 0) space s, l))
+  pub gather-done : at < length line → getD line at 0 ≡ 48 → at + 1 ≡ length line → Gathered o (Count n) out
+  unfolding isDigit
+  gather-done h z e = gathered-some o n out fits (so-far ∙ ap (behind (take n out)) (list-closed signed line at 0 0 (listAt signed line at) (list-is signed (drop at line)) h 0 (omega arith) (rw z) refl refl e))

@@ -10,7 +10,7 @@ use native.Mathlib.Omega.{arith}
 use lib.Dec.{eqb, ltb}
 use lib.ListN.{length, take, drop, getD, drop-of-length-le, length-drop}
 use lib.Seq.{drop-cons, drop-drop, take-all}
-use borrow.Author.Tests.{eq-eqb, ne-eqb, eqb-false, ltb-true, ltb-false, lt-ltb, le-ltb}
+use borrow.Author.Tests.{eq-eqb, ne-eqb, eqb-true, eqb-false, ltb-true, ltb-false, lt-ltb, le-ltb}
 use Rattle.dqbf.specs.Text.{lineFeed, space, onto, pieces, isEmpty}
 use Rattle.dqbf.proofs.Laws.Parts.{tail-lent}
 use Rattle.dqbf.proofs.Laws.Tests.{or-no}
@@ -40,21 +40,45 @@ before-le s (b ∷ bs) = go (eqb b s) (before-le s bs)
     go true h = omega arith
     go false h = omega arith
 
--- a block of bytes that are not s, of which those up to k are looked at
-pub block-none : (s : ℕ) (l : List ℕ) (i : ℕ) → lengthBefore s (drop i l) ≡ 0 + lengthBefore s (drop (i + 0) l)
-block-none s l i = rw (add-zero i) (omega arith)
+-- k bytes that are not s, and those behind them
+before-split : (s : ℕ) (l : List ℕ) (k : ℕ) → k ≤ lengthBefore s l → lengthBefore s l ≡ k + lengthBefore s (drop k l)
+unfolding lengthBefore
+before-split s l zero h = omega arith
+before-split s [] (suc k) h = absurd (omega arith)
+before-split s (b ∷ bs) (suc k) h = go (eqb b s) h (before-split s bs k)
+  where
+    go : (t : Bool) → suc k ≤ cond t 0 (suc (lengthBefore s bs)) → (k ≤ lengthBefore s bs → lengthBefore s bs ≡ k + lengthBefore s (drop k bs))
+        → cond t 0 (suc (lengthBefore s bs)) ≡ suc k + lengthBefore s (drop k bs)
+    go true h r = absurd (omega arith)
+    go false h r = let e = r (omega arith) in omega arith
 
-pub block-more : (s : ℕ) (l : List ℕ) (i k : ℕ) (found : Bool) → (found ≡ false → lengthBefore s (drop i l) ≡ k + lengthBefore s (drop (i + k) l)) → i + k < length l
-    → (found || eqb (getD l (i + k) 0) s) ≡ false → lengthBefore s (drop i l) ≡ k + 1 + lengthBefore s (drop (i + (k + 1)) l)
-block-more s l i k found so-far h z =
-    let e = so-far (or-no found (eqb (getD l (i + k) 0) s) z .0) in
-    let m = before-miss s l (i + k) h (eqb-false (getD l (i + k) 0) s (or-no found (eqb (getD l (i + k) 0) s) z .1)) in
-    let q : i + (k + 1) ≡ i + k + 1 = omega arith in
-    rw q (omega arith)
+pub before-pass : (s : ℕ) (l : List ℕ) (i k : ℕ) → k ≤ lengthBefore s (drop i l) → lengthBefore s (drop i l) ≡ k + lengthBefore s (drop (i + k) l)
+before-pass s l i k h = before-split s (drop i l) k h ∙ ap (λ (m : List ℕ). k + lengthBefore s m) (drop-drop k i l)
 
-pub block-all : (s : ℕ) (l : List ℕ) (i k n : ℕ) (found : Bool) → (found ≡ false → lengthBefore s (drop i l) ≡ k + lengthBefore s (drop (i + k) l)) → k ≡ n
-    → found ≡ false → lengthBefore s (drop i l) ≡ n + lengthBefore s (drop (i + n) l)
-block-all s l i k n found so-far e z = so-far z ∙ ap (λ (m : ℕ). m + lengthBefore s (drop (i + m) l)) e
+-- ---- `block_has`: those up to k are looked at
+
+pub block-none : (s : ℕ) (l : List ℕ) (i : ℕ) → false ≡ ltb (lengthBefore s (drop i l)) 0
+block-none s l i = sym (le-ltb (lengthBefore s (drop i l)) 0 (omega arith))
+
+pub block-more : (s : ℕ) (l : List ℕ) (i k : ℕ) (found : Bool) → found ≡ ltb (lengthBefore s (drop i l)) k → i + k < length l
+    → (found || eqb (getD l (i + k) 0) s) ≡ ltb (lengthBefore s (drop i l)) (k + 1)
+block-more s l i k true so-far h =
+    let m = ltb-true (lengthBefore s (drop i l)) k (sym so-far) in
+    sym (lt-ltb (lengthBefore s (drop i l)) (k + 1) (omega arith))
+block-more s l i k false so-far h = go (eqb (getD l (i + k) 0) s) refl
+  where
+    passed : lengthBefore s (drop i l) ≡ k + lengthBefore s (drop (i + k) l)
+    passed = before-pass s l i k (ltb-false (lengthBefore s (drop i l)) k (sym so-far))
+
+    go : (t : Bool) → eqb (getD l (i + k) 0) s ≡ t → t ≡ ltb (lengthBefore s (drop i l)) (k + 1)
+    go true e =
+        let z = before-hit s l (i + k) h (eqb-true (getD l (i + k) 0) s e) in
+        let p = passed in
+        sym (lt-ltb (lengthBefore s (drop i l)) (k + 1) (omega arith))
+    go false e =
+        let z = before-miss s l (i + k) h (eqb-false (getD l (i + k) 0) s e) in
+        let p = passed in
+        sym (le-ltb (lengthBefore s (drop i l)) (k + 1) (omega arith))
 
 -- ---- leading
 

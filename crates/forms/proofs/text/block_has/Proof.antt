@@ -1,24 +1,24 @@
-use mathlib.Core.Path.{_≡_}
-use mathlib.Core.Bool.{false}
-use Prim.Native.Nat.{_+_, _-_, _≤_}
+use mathlib.Core.Path.{_≡_, ap, _∙_}
+use Prim.Native.Nat.{_-_, _≤_}
 use native.Mathlib.Omega.{arith}
+use lib.Dec.{ltb}
 use lib.ListN.{drop}
 use Rattle.forms.specs.Working.{lengthBefore}
-use Rattle.forms.proofs.Laws.Pieces.{block-none, block-more, block-all}
+use Rattle.forms.proofs.Laws.Pieces.{block-none, block-more}
 use Rattle.forms.proofs.text.block_has.Statement.{statement}
 use Rattle.forms.proofs.text.block_has.Tie as tie
 use Rattle.forms.proofs.text.block_has.Reads as reads
 use Rattle.forms.proofs.text.block_has.Lts as lts
 
 abbrev Inv-loop : tie.InvT-loop
-Inv-loop bytes i n b found₀ k₀ found k = (k ≤ n) × (found ≡ false → lengthBefore b (drop i bytes) ≡ k + lengthBefore b (drop (i + k) bytes))
+Inv-loop bytes i n b found₀ k₀ found k = (k ≤ n) × (found ≡ ltb (lengthBefore b (drop i bytes)) k)
 
 abbrev μ-loop : tie.MeasureT-loop
 μ-loop bytes i n b found₀ k₀ found k = n - k
 
 -- src/text.rt:31:5
 loop-holds : tie.Need-loop-holds Inv-loop μ-loop
-loop-holds c = (omega arith, λ z. block-none (c .args .b) (c .args .bytes .now) (c .args .i))
+loop-holds c = (omega arith, block-none (c .args .b) (c .args .bytes .now) (c .args .i))
 
 -- src/text.rt:32:18
 add-at : tie.Need-add-at Inv-loop μ-loop
@@ -42,7 +42,10 @@ loop-again c = (omega arith, block-more (c .before .before .before .args .b) (c 
 
 -- src/text.rt:25:1
 returns : tie.Need-returns Inv-loop μ-loop
-returns c = block-all (c .before .before .args .b) (c .before .before .args .bytes .now) (c .before .before .args .i) (c .before .loop .k) (c .before .before .args .n) (c .before .loop .found) (c .before .loop .inv .1) (omega arith)
+returns c =
+    let s = c .before .before in
+    let e : c .before .loop .k ≡ s .args .n = omega arith in
+    c .before .loop .inv .1 ∙ ap (ltb (lengthBefore (s .args .b) (drop (s .args .i) (s .args .bytes .now)))) e
 
 pub block-has-spec : {M : Type 1} → statement M
 block-has-spec =

@@ -1,8 +1,10 @@
-use mathlib.Core.Path.{_≡_}
+use mathlib.Core.Path.{_≡_, sym, _∙_}
 use Prim.Native.Nat.{_+_, _-_, _≤_}
 use native.Mathlib.Omega.{arith}
 use lib.ListN.{length, drop}
+use borrow.Author.Tests.{ltb-true, ltb-false}
 use Rattle.forms.specs.Working.{lengthBefore}
+use Rattle.forms.proofs.Laws.Pieces.{before-pass}
 use Rattle.forms.proofs.text.blocks_before.Statement.{statement}
 use Rattle.forms.proofs.text.blocks_before.Tie as tie
 use Rattle.forms.proofs.text.blocks_before.Reads as reads
@@ -29,7 +31,9 @@ block-has-requires c κs = omega arith
 
 -- src/text.rt:46:13
 returns : tie.Need-returns Inv-loop μ-loop
-returns c = (c .before .before .before .loop .inv .0, c .before .before .before .loop .inv .1)
+returns c =
+    let l = c .before .before .before .loop in
+    (l .inv .0, l .inv .1, λ h. ltb-true _ 16 (sym (c .before .block-has .ensures) ∙ c .if1 .taken))
 
 -- src/text.rt:48:9
 add-i : tie.Need-add-i Inv-loop μ-loop
@@ -41,11 +45,14 @@ loop-less c = omega arith
 
 -- src/text.rt:44:5
 loop-again : tie.Need-loop-again Inv-loop μ-loop
-loop-again c = let e = c .before .block-has .ensures (c .if1 .left) in (omega arith, omega arith)
+loop-again c =
+    let s = c .before .before .before .before .before in
+    let l = c .before .before .before .loop in
+    let e = before-pass (s .args .b) (s .args .bytes .now) (l .i) 16 (ltb-false _ 16 (sym (c .before .block-has .ensures) ∙ c .if1 .left)) in (omega arith, omega arith)
 
 -- src/text.rt:40:1
 returns-2 : tie.Need-returns-2 Inv-loop μ-loop
-returns-2 c = (c .before .loop .inv .0, c .before .loop .inv .1)
+returns-2 c = (c .before .loop .inv .0, c .before .loop .inv .1, λ h. absurd (omega arith))
 
 pub blocks-before-spec : {M : Type 1} → statement M
 blocks-before-spec =
