@@ -131,6 +131,16 @@ module _ (line : List ℕ) (i d : ℕ) (e : d ≡ digitOf (drop i line)) where
   pub digit-less : 0 < d → d < 10
   digit-less h = let f = digit-some h in let high = digit-high (getD line i 0) (f .1) in let s = f .2 in omega arith
 
+-- ---- the minus at a place
+
+pub minus-there : (signed : Bool) (b : ℕ) → (signed && eqb b minus) ≡ true → 1 ≡ minusOf signed b
+unfolding minusOf
+minus-there signed b h = rw h
+
+pub minus-none : (signed : Bool) (b : ℕ) → (signed && eqb b minus) ≡ false → 0 ≡ minusOf signed b
+unfolding minusOf
+minus-none signed b h = rw h
+
 -- ---- the number at a place: m counts its minus, and d is the first digit behind that
 
 minus-other : (b : ℕ) → b ≡ minus → isDigit b ≡ false

@@ -1,5 +1,4 @@
-use mathlib.Core.Path.{_≡_}
-use Rattle.forms.specs.Working.{minusOf}
+use Rattle.forms.proofs.Laws.Listed.{minus-there, minus-none}
 use Rattle.forms.proofs.form.minus_of.Statement.{statement}
 use Rattle.forms.proofs.form.minus_of.Tie as tie
 use Rattle.forms.proofs.form.minus_of.Reads as reads
@@ -7,13 +6,11 @@ use Rattle.forms.proofs.form.minus_of.Lts as lts
 
 -- src/form.rt:40:9
 returns : tie.Need-returns
-unfolding minusOf
-returns c = rw (c .if1 .taken)
+returns c = minus-there (c .before .args .signed) (c .before .args .b) (c .if1 .taken)
 
 -- src/form.rt:36:1
 returns-2 : tie.Need-returns-2
-unfolding minusOf
-returns-2 c = rw (c .if1 .left)
+returns-2 c = minus-none (c .before .args .signed) (c .before .args .b) (c .if1 .left)
 
 pub minus-of-spec : {M : Type 1} → statement M
 minus-of-spec = tie.close (tie.spec returns returns-2)
