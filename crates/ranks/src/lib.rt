@@ -3,3 +3,4 @@ mod insertion;
 pub mod literals;
 mod marks;
 pub mod order;
+mod rising;
