@@ -1,8 +1,10 @@
 // Writers of new clauses to the front of what they are lent, the tail of the literal table. Each answers how many literals it wrote.
 use dqbf::literal;
 ghost use mathlib.Core.Path.{_≡_};
+ghost use mathlib.Core.Bool.{cond};
 ghost use mathlib.Core.List.{[], _∷_, _++_};
-ghost use Prim.Native.Nat.{_+_, _<_, _≤_};
+ghost use Prim.Native.Nat.{_+_, _<_, _≤_, _^_};
+ghost use lib.Dec.{ltb};
 ghost use lib.IntN.{natAbs, negℤ};
 ghost use lib.ListN.{length};
 ghost use Rattle.dqbf.specs.Limits.{widthLimit};
@@ -24,14 +26,31 @@ pub fn write_clause(tail: &mut [i16], clause: &[i16]) -> usize
     place
 }
 
-// The clause without the literal at a place: what stands before it, and what stands behind it.
+// The place of literal i of a clause without the one at a place.
+fn skipping(i: usize, place: usize) -> usize
+    requires { ⌜ i + 1 < 2 ^ 64 ⌝ }
+    ensures { λ r. ⌜ r ≡ cond (ltb i place) i (i + 1) ⌝ }
+{
+    if i < place {
+        return i;
+    }
+    i + 1
+}
+
+// The clause without the literal at a place. The turn has no branch.
 pub fn write_without(tail: &mut [i16], clause: &[i16], place: usize) -> usize
     requires { ⌜ (place < length (now clause)) × (length (now clause) ≤ length (now tail) + 1) ⌝ }
     ensures { λ r. ⌜ Written (butAt place (now (clause .entry))) (now (tail .entry)) (now (tail .exit)) r ⌝ }
 {
-    let next = place + 1;
-    let front = write_clause(tail, &clause[..place]);
-    front + write_clause(&mut tail[front..], &clause[next..])
+    let count = clause.len() - 1;
+    let mut i = 0;
+    while i < count {
+        let from = skipping(i, place);
+        let l = clause[from];
+        tail[i] = l;
+        i += 1;
+    }
+    i
 }
 
 // A part of a fork: the literals that a mask picks, bit i the one at place i, and the new literal behind them. The mask loses its lowest bit each time.

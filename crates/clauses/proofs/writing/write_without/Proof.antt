@@ -1,95 +1,100 @@
-use borrow.Author.Needs.{needs}
-use mathlib.Core.List.{_++_}
-use Prim.Native.Nat.{_+_, _-_}
+-- `writing::write_without`: what is written and what is left make the clause without the literal at the place.
+use Prim.Native.Nat.{_-_, _≤_}
 use native.Mathlib.Omega.{arith}
-use lib.ListN.{length, take, drop, length-drop}
-use lib.Seq.{length-take-le}
-use Rattle.dqbf.specs.Literal.{Clause}
-use Rattle.dqbf.proofs.Laws.Parts.{tail-lent}
-use Rattle.clauses.proofs.Laws.Writing.{written-as, written-behind, tail-room}
-use mathlib.Core.Path.{sym, ap}
+use borrow.Author.Needs.{needs}
+use lib.IntN.{pos}
+use lib.ListN.{length, drop}
+use Rattle.dqbf.proofs.Laws.Signed.{kept16}
+use Rattle.clauses.specs.Places.{butAt}
+use Rattle.clauses.proofs.Laws.Places.{list-end, but-length, but-front, skipped-within}
+use Rattle.clauses.proofs.Laws.Writing.{Writing, writing-start, writing-more, writing-done}
 use Rattle.clauses.proofs.writing.write_without.Statement.{statement}
 use Rattle.clauses.proofs.writing.write_without.Tie as tie
 use Rattle.clauses.proofs.writing.write_without.Reads as reads
 use Rattle.clauses.proofs.writing.write_without.Lts as lts
-use Rattle.clauses.proofs.writing.write_clause.Reads as write-clause-reads
+use Rattle.clauses.proofs.writing.skipping.Reads as skipping-reads
 
--- src/writing.rt:32:16
-add-next : tie.Need-add-next
-add-next c = search needs
+abbrev Inv-loop : tie.InvT-loop
+Inv-loop tail₀ clause place count i₀ tail i = (i ≤ count) × Writing (butAt place clause) tail₀ tail i (drop i (butAt place clause))
 
--- src/writing.rt:33:36
-slice-aggregate-write-clause : tie.Need-slice-aggregate-write-clause
-slice-aggregate-write-clause c = sym (length-take-le (c .before .before .args .place) (c .before .before .args .clause .now) (omega arith))
+abbrev μ-loop : tie.MeasureT-loop
+μ-loop tail₀ clause place count i₀ tail i = count - i
 
--- src/writing.rt:33:9
-write-clause-requires : tie.Need-write-clause-requires
-write-clause-requires c κs = omega (arith, length-take-le (c .before .before .args .place) (c .before .before .args .clause .now) (omega arith))
+-- src/writing.rt:45:17
+sub-count : tie.Need-sub-count Inv-loop μ-loop
+sub-count c = search needs
 
--- src/writing.rt:34:26
-mul-write-clause : tie.Need-mul-write-clause
-mul-write-clause c = omega (arith, c .before .write-clause .ensures .count, length-take-le (c .before .before .before .before .args .place) (c .before .before .before .before .args .clause .now) (omega arith))
+-- src/writing.rt:47:5
+loop-holds : tie.Need-loop-holds Inv-loop μ-loop
+loop-holds c = (search needs, writing-start _ _)
 
--- src/writing.rt:34:26
-sub-write-clause : tie.Need-sub-write-clause
-sub-write-clause c = omega (arith, c .before .write-clause .kept .0, c .before .write-clause .ensures .count, length-take-le (c .before .before .before .before .args .place) (c .before .before .before .before .args .clause .now) (omega arith))
+-- src/writing.rt:48:13
+skipping-requires : tie.Need-skipping-requires Inv-loop μ-loop
+skipping-requires c κs = search needs
 
--- src/writing.rt:34:26
-part-write-clause-start : tie.Need-part-write-clause-start
-part-write-clause-start c = omega (arith, c .before .write-clause .kept .0, c .before .write-clause .ensures .count, length-take-le (c .before .before .before .before .args .place) (c .before .before .before .before .args .clause .now) (omega arith))
+-- src/writing.rt:49:17
+mul-l : tie.Need-mul-l Inv-loop μ-loop
+mul-l c =
+    let start = c .before .before .before in
+    let within = skipped-within (start .args .clause .now) (start .args .place) (c .before .before .loop .i) (c .skipping .ensures) (omega arith) in
+    search needs
 
--- src/writing.rt:34:26
-part-write-clause-end : tie.Need-part-write-clause-end
-part-write-clause-end c = search needs
+-- src/writing.rt:49:17
+shared-slice-copy-out-l : tie.Need-shared-slice-copy-out-l Inv-loop μ-loop
+shared-slice-copy-out-l c =
+    let start = c .before .before .before in
+    skipped-within (start .args .clause .now) (start .args .place) (c .before .before .loop .i) (c .skipping .ensures) (omega arith)
 
--- src/writing.rt:34:46
-mul-write-clause-2 : tie.Need-mul-write-clause-2
-mul-write-clause-2 c = search needs
+-- src/writing.rt:50:9
+mul-l-2 : tie.Need-mul-l-2 Inv-loop μ-loop
+mul-l-2 c = search needs
 
--- src/writing.rt:34:46
-sub-write-clause-2 : tie.Need-sub-write-clause-2
-sub-write-clause-2 c = search needs
+-- src/writing.rt:50:9
+slice-set-from-l : tie.Need-slice-set-from-l Inv-loop μ-loop
+slice-set-from-l c = omega (arith, c .before .before .before .loop .inv .1 .copied .same)
 
--- src/writing.rt:34:46
-part-write-clause-start-2 : tie.Need-part-write-clause-start-2
-part-write-clause-start-2 c = search needs
+-- src/writing.rt:51:9
+add-i : tie.Need-add-i Inv-loop μ-loop
+add-i c = search needs
 
--- src/writing.rt:34:46
-part-write-clause-end-2 : tie.Need-part-write-clause-end-2
-part-write-clause-end-2 c = search needs
+-- src/writing.rt:47:5
+loop-less : tie.Need-loop-less Inv-loop μ-loop
+loop-less c = search needs
 
--- src/writing.rt:34:13
-write-clause-requires-2 : tie.Need-write-clause-requires-2
-write-clause-requires-2 c κs = tail-room (c .before .before .before .write-clause .last .0) (c .before .before .before .write-clause .result) (omega (arith, c .before .before .before .write-clause .kept .0, c .before .before .before .write-clause .ensures .count, length-take-le (c .before .before .before .before .before .before .args .place) (c .before .before .before .before .before .before .args .clause .now) (omega arith), ap length (tail-lent (c .before .before .before .before .before .before .args .clause .now) (c .before .before .before .before .before .before .args .place + 1)), length-drop (c .before .before .before .before .before .before .args .place + 1) (c .before .before .before .before .before .before .args .clause .now)))
+-- src/writing.rt:47:5
+loop-again : tie.Need-loop-again Inv-loop μ-loop
+loop-again c =
+    let start = c .before .before .before .before in
+    let l = c .before .before .before .loop in
+    let next = but-front (start .args .clause .now) (start .args .place) (l .i) (c .before .skipping .ensures) (pos 0) (start .pre .0) (omega arith) in
+    (search needs, writing-more (l .inv .1) (omega (arith, l .inv .1 .copied .same)) next (kept16 (c .l .given)))
 
--- src/writing.rt:34:5
-add-result : tie.Need-add-result
-add-result c = omega (arith, c .before .write-clause2 .ensures .count, c .before .before .before .before .before .write-clause .ensures .count, length-take-le (c .before .before .before .before .before .before .before .before .args .place) (c .before .before .before .before .before .before .before .before .args .clause .now) (omega arith), ap length (tail-lent (c .before .before .before .before .before .before .before .before .args .clause .now) (c .before .before .before .before .before .before .before .before .args .place + 1)), length-drop (c .before .before .before .before .before .before .before .before .args .place + 1) (c .before .before .before .before .before .before .before .before .args .clause .now))
+-- src/writing.rt:41:1
+same-length : tie.Need-same-length Inv-loop μ-loop
+same-length c = c .before .loop .inv .1 .copied .same
 
--- src/writing.rt:28:1
-same-length : tie.Need-same-length
-same-length c = search needs
-
--- src/writing.rt:28:1
-returns : tie.Need-returns
-returns c = written-as (written-behind (c .before .before .before .before .before .write-clause .ensures) (omega (arith, length-take-le (c .before .before .before .before .before .before .before .before .args .place) (c .before .before .before .before .before .before .before .before .args .clause .now) (omega arith))) (c .before .write-clause2 .ensures)) (ap (λ (D : Clause). take (c .before .before .before .before .before .before .before .before .args .place) (c .before .before .before .before .before .before .before .before .args .clause .now) ++ D) (tail-lent (c .before .before .before .before .before .before .before .before .args .clause .now) (c .before .before .before .before .before .before .before .before .args .place + 1)))
+-- src/writing.rt:41:1
+returns : tie.Need-returns Inv-loop μ-loop
+returns c =
+    let clause = c .before .before .args .clause .now in
+    let place = c .before .before .args .place in
+    writing-done (c .before .loop .inv .1) (list-end (butAt place clause) (c .before .loop .i) (omega (arith, but-length clause place (c .before .before .pre .0))))
 
 pub write-without-spec : {M : Type 1} → statement M
 write-without-spec =
     tie.close
     (tie.spec
-    add-next
-    slice-aggregate-write-clause
-    write-clause-requires
-    mul-write-clause
-    sub-write-clause
-    part-write-clause-start
-    part-write-clause-end
-    mul-write-clause-2
-    sub-write-clause-2
-    part-write-clause-start-2
-    part-write-clause-end-2
-    write-clause-requires-2
-    add-result
+    Inv-loop
+    μ-loop
+    sub-count
+    loop-holds
+    skipping-requires
+    mul-l
+    shared-slice-copy-out-l
+    mul-l-2
+    slice-set-from-l
+    add-i
+    loop-less
+    loop-again
     same-length
     returns)
