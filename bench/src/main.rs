@@ -2,6 +2,7 @@
 //! run does not grow linearly with its records, or if a driver's call costs too
 //! much more than the typed call.
 
+mod random;
 mod stack;
 mod time;
 mod typed;
@@ -35,7 +36,7 @@ fn compared(work: &Work) {
     println!(
         "| {} | {} | {archive:.1} | {:.1} | {:.1} | {:.2} | {:.2} |",
         work.name,
-        work.size,
+        work.size(),
         micros(times.lean),
         micros(times.reference),
         archive / micros(times.lean),
@@ -47,11 +48,14 @@ fn comparisons() {
     println!("| call | bytes or records | library, µs | lean, µs | reference, µs | to lean | to reference |");
     println!("|---|---|---|---|---|---|---|");
     let lists = work::lists();
-    for work in work::loads() {
-        compared(&work);
+    for work in work::loads().iter().chain(&random::loads()) {
+        compared(work);
     }
     for list in &lists {
         compared(&list.run(list.most));
+    }
+    for work in &random::runs() {
+        compared(work);
     }
     for work in lists[0].single() {
         compared(&work);
@@ -66,7 +70,7 @@ fn growth(list: &List) -> bool {
     let times = time::each(&mut Archive, &works, ROUNDS);
     print!("| {} |", list.name);
     for (work, time) in works.iter().zip(&times) {
-        print!(" {}: {:.1} |", work.size, micros(*time));
+        print!(" {}: {:.1} |", work.size(), micros(*time));
     }
     let ratio = micros(times[4]) / micros(times[3]);
     println!(" {ratio:.2} |");
@@ -94,7 +98,7 @@ fn typed_calls() -> bool {
     println!("|---|---|---|---|---|");
     let mut close = true;
     for work in work::loads() {
-        close &= against_typed(work.name, Typed::Same, &work);
+        close &= against_typed(&work.name, Typed::Same, &work);
     }
     let lists = work::lists();
     for list in &lists {
@@ -102,7 +106,7 @@ fn typed_calls() -> bool {
     }
     let single = lists[0].single();
     for work in &single {
-        close &= against_typed(work.name, Typed::Same, work);
+        close &= against_typed(&work.name, Typed::Same, work);
     }
     let name = "run of one record, against one typed step";
     close & against_typed(name, Typed::Step, &single[0])
@@ -111,9 +115,11 @@ fn typed_calls() -> bool {
 fn stacks() {
     println!("\n| call | library, bytes of stack | lean, bytes of stack |");
     println!("|---|---|---|");
-    let loads = work::loads();
+    let mut loads = work::loads();
+    loads.extend(random::loads());
     let lists = work::lists();
-    let runs: Vec<Work> = lists.iter().map(|list| list.run(list.most)).collect();
+    let mut runs: Vec<Work> = lists.iter().map(|list| list.run(list.most)).collect();
+    runs.extend(random::runs());
     let single = lists[0].single();
     for (name, works) in [
         ("load", &loads[..]),
@@ -124,8 +130,8 @@ fn stacks() {
     ] {
         let most =
             |library: fn(&Work)| works.iter().map(|work| stack::used(|| library(work))).max();
-        let archive = most(|work| drop(time::call(&mut Archive, work)));
-        let lean = most(|work| drop(time::call(&mut Lean, work)));
+        let archive = most(|work| drop(time::call(&mut Archive, work.input(0))));
+        let lean = most(|work| drop(time::call(&mut Lean, work.input(0))));
         println!(
             "| {name} | {} | {} |",
             archive.unwrap_or(0),

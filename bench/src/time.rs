@@ -9,7 +9,7 @@ use differential::library::{self, Lean, Library};
 use differential::oracle;
 
 use crate::typed::{self, Lent, Typed};
-use crate::work::Work;
+use crate::work::{Input, Work};
 
 /// Medians: the archive, the fast checker, the reference checker.
 pub struct Times {
@@ -21,17 +21,18 @@ pub struct Times {
 /// The call's time, answer and buffers.
 pub type Outcome = (Duration, u64, Buffers);
 
-pub fn call(library: &mut impl Library, work: &Work) -> Outcome {
-    let mut buffers = work.start.clone();
+pub fn call(library: &mut impl Library, input: &Input) -> Outcome {
+    // Copies, so that both are in the cache whoever is called first.
+    let (mut buffers, call) = (input.start.clone(), input.call.clone());
     let start = Instant::now();
-    let word = library::answer(library, &mut buffers, &work.call);
+    let word = library::answer(library, &mut buffers, &call);
     (start.elapsed(), word, buffers)
 }
 
-fn call_reference(work: &Work) -> Outcome {
-    let mut buffers = work.start.clone();
+fn call_reference(input: &Input) -> Outcome {
+    let mut buffers = input.start.clone();
     let start = Instant::now();
-    let word = oracle::answer(&mut buffers, &work.call);
+    let word = oracle::answer(&mut buffers, &input.call);
     (start.elapsed(), word, buffers)
 }
 
@@ -43,9 +44,9 @@ fn median(mut times: Vec<Duration>) -> Duration {
 /// The medians of some works on one library, timed in turn.
 pub fn each(library: &mut impl Library, works: &[Work], rounds: usize) -> Vec<Duration> {
     let mut times = vec![Vec::new(); works.len()];
-    for _ in 0..rounds {
+    for round in 0..rounds {
         for (time, work) in times.iter_mut().zip(works) {
-            time.push(call(library, work).0);
+            time.push(call(library, work.input(round)).0);
         }
     }
     times.into_iter().map(median).collect()
@@ -55,10 +56,15 @@ pub fn each(library: &mut impl Library, works: &[Work], rounds: usize) -> Vec<Du
 pub fn all(work: &Work, rounds: usize) -> Times {
     let mut times = [Vec::new(), Vec::new(), Vec::new()];
     for round in 0..rounds {
-        let mut outcomes = vec![call(&mut Archive, work), call(&mut Lean, work)];
+        let input = work.input(round);
+        // Each is the first in every other round.
+        let early = (round % 2 == 1).then(|| call(&mut Lean, input));
+        let archive = call(&mut Archive, input);
+        let lean = early.unwrap_or_else(|| call(&mut Lean, input));
+        let mut outcomes = vec![archive, lean];
         // The reference is slow, and a tenth of the rounds is enough for it.
         if round % 10 == 0 {
-            outcomes.push(call_reference(work));
+            outcomes.push(call_reference(input));
         }
         let (_, word, buffers) = outcomes[0].clone();
         for (time, (each, other_word, other_buffers)) in times.iter_mut().zip(outcomes) {
@@ -85,15 +91,15 @@ pub struct DriverTimes {
     pub pass: Duration,
 }
 
-fn call_typed(typed: Typed, work: &Work) -> Outcome {
-    let mut lent = Lent::of(&work.start);
+fn call_typed(typed: Typed, input: &Input) -> Outcome {
+    let (mut lent, call) = (Lent::of(&input.start), input.call.clone());
     let start = Instant::now();
-    let word = lent.call(typed, &work.call);
+    let word = lent.call(typed, &call);
     (start.elapsed(), word, lent.buffers())
 }
 
-fn pass(work: &Work) -> Duration {
-    let mut buffers = work.start.clone();
+fn pass(input: &Input) -> Duration {
+    let mut buffers = input.start.clone();
     let start = Instant::now();
     typed::pass(&mut buffers);
     start.elapsed()
@@ -104,14 +110,15 @@ fn pass(work: &Work) -> Duration {
 pub fn driver(typed: Typed, work: &Work, rounds: usize) -> DriverTimes {
     let mut times = [Vec::new(), Vec::new(), Vec::new()];
     for round in 0..rounds {
+        let input = work.input(round);
         // Each is the first in every other round.
-        let early = (round % 2 == 1).then(|| call_typed(typed, work));
-        let (driver_time, word, buffers) = call(&mut Archive, work);
+        let early = (round % 2 == 1).then(|| call_typed(typed, input));
+        let (driver_time, word, buffers) = call(&mut Archive, input);
         let (typed_time, typed_word, typed_buffers) =
-            early.unwrap_or_else(|| call_typed(typed, work));
+            early.unwrap_or_else(|| call_typed(typed, input));
         let same_word = word == typed_word || typed == Typed::Step;
         assert!(same_word && buffers == typed_buffers, "{}", work.name);
-        for (time, each) in times.iter_mut().zip([driver_time, typed_time, pass(work)]) {
+        for (time, each) in times.iter_mut().zip([driver_time, typed_time, pass(input)]) {
             time.push(each);
         }
     }

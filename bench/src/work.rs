@@ -1,16 +1,21 @@
 //! What is timed: the largest texts, long lists and questions on full tables.
+//! The works of `random` are random ones.
 
 use cases::case::{bytes_of, Words};
 use checker::driver::Buffers;
 use differential::scenario::Call;
 
 /// A call on given buffers.
-pub struct Work {
-    pub name: &'static str,
+pub struct Input {
     pub start: Buffers,
     pub call: Call,
-    /// Records, or bytes of text.
-    pub size: usize,
+}
+
+/// Calls of one kind.
+pub struct Work {
+    pub name: String,
+    /// Each round makes the next call, in a circle.
+    pub inputs: Vec<Input>,
 }
 
 /// A formula and a list of equal records on it, as many as there is room for.
@@ -21,7 +26,44 @@ pub struct List {
     pub most: usize,
 }
 
-fn joined<T: ToString>(numbers: impl IntoIterator<Item = T>) -> String {
+impl Input {
+    /// The load of a text into zero buffers.
+    pub fn load(text: String) -> Input {
+        Input {
+            start: Buffers::zero(),
+            call: Call::Load(text.into_bytes()),
+        }
+    }
+
+    /// Records, or bytes of text.
+    fn size(&self) -> usize {
+        match &self.call {
+            Call::Load(text) => text.len(),
+            Call::Run(records) => records.len() / 16,
+            _ => 1,
+        }
+    }
+}
+
+impl Work {
+    fn one(name: &str, input: Input) -> Work {
+        Work {
+            name: name.into(),
+            inputs: vec![input],
+        }
+    }
+
+    pub fn input(&self, round: usize) -> &Input {
+        &self.inputs[round % self.inputs.len()]
+    }
+
+    /// The mean of the inputs' sizes.
+    pub fn size(&self) -> usize {
+        self.inputs.iter().map(Input::size).sum::<usize>() / self.inputs.len()
+    }
+}
+
+pub fn joined<T: ToString>(numbers: impl IntoIterator<Item = T>) -> String {
     let words = numbers.into_iter().map(|number| number.to_string());
     words.collect::<Vec<_>>().join(" ")
 }
@@ -40,21 +82,8 @@ fn short_clauses() -> String {
     text
 }
 
-/// The places 0 to 31 in an order that is another one for each clause.
-fn shuffled(clause: usize) -> Vec<usize> {
-    let mut places: Vec<usize> = (0..32).collect();
-    let mut random = clause as u64;
-    for last in (1..32).rev() {
-        random = random
-            .wrapping_mul(6_364_136_223_846_793_005)
-            .wrapping_add(1_442_695_040_888_963_407);
-        places.swap(last, (random >> 33) as usize % (last + 1));
-    }
-    places
-}
-
-/// 256 clauses of 32 literals, each line in the order that `places` gives.
-fn wide_clauses(places: impl Fn(usize) -> Vec<usize>) -> String {
+/// 256 clauses of 32 literals, each line falling.
+fn falling_clauses() -> String {
     let mut text = format!(
         "p cnf 99 256\na {} 0\ne {} 0\n",
         joined(10..=40),
@@ -62,13 +91,13 @@ fn wide_clauses(places: impl Fn(usize) -> Vec<usize>) -> String {
     );
     for clause in 0..256 {
         let first = 10 + clause % 58;
-        text += &format!("{} 0\n", joined(places(clause).iter().map(|place| first + place)));
+        text += &format!("{} 0\n", joined((first..first + 32).rev()));
     }
     text
 }
 
 /// The most bytes of a text.
-const TEXT_LIMIT: usize = 32_768;
+pub const TEXT_LIMIT: usize = 32_768;
 
 /// 64 universals and sets of 64 members, no clause; a comment in front fills the text up to its limit.
 fn large_sets() -> String {
@@ -88,20 +117,11 @@ pub fn loads() -> Vec<Work> {
         ("load, 2,048 clauses of 4 literals", short_clauses()),
         (
             "load, 256 clauses of 32 literals, falling",
-            wide_clauses(|_| (0..32).rev().collect()),
-        ),
-        (
-            "load, 256 clauses of 32 literals, shuffled",
-            wide_clauses(shuffled),
+            falling_clauses(),
         ),
         ("load, sets of 64 universals", large_sets()),
     ];
-    let works = texts.map(|(name, text)| Work {
-        name,
-        start: Buffers::zero(),
-        size: text.len(),
-        call: Call::Load(text.into_bytes()),
-    });
+    let works = texts.map(|(name, text)| Work::one(name, Input::load(text)));
     works.into()
 }
 
@@ -153,35 +173,30 @@ pub fn lists() -> Vec<List> {
     ]
 }
 
-impl List {
-    /// The loaded formula.
-    fn start(&self) -> Buffers {
-        let mut buffers = Buffers::zero();
-        buffers
-            .load(self.text.as_bytes())
-            .expect("an accepted text");
-        buffers
-    }
+/// The buffers of a loaded formula.
+pub fn loaded(text: &str) -> Buffers {
+    let mut buffers = Buffers::zero();
+    buffers.load(text.as_bytes()).expect("an accepted text");
+    buffers
+}
 
+impl List {
     /// A run of so many records.
     pub fn run(&self, records: usize) -> Work {
-        Work {
-            name: self.name,
-            start: self.start(),
+        let input = Input {
+            start: loaded(&self.text),
             call: Call::Run(bytes_of(&vec![self.record; records])),
-            size: records,
-        }
+        };
+        Work::one(self.name, input)
     }
 
     /// A run of one record, and the three questions, on tables that the others filled.
     pub fn single(&self) -> [Work; 4] {
-        let mut full = self.start();
+        let mut full = loaded(&self.text);
         full.run(&bytes_of(&vec![self.record; self.most - 1]));
-        let work = |name, call| Work {
-            name,
-            start: full.clone(),
-            call,
-            size: 1,
+        let work = |name, call| {
+            let start = full.clone();
+            Work::one(name, Input { start, call })
         };
         let last = self.most as u32;
         [
