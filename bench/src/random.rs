@@ -1,6 +1,8 @@
 //! Random works, another input for each round: what is timed here, no branch
 //! predictor can learn.
 
+use std::ops::RangeInclusive;
+
 use cases::prover::{records_of, resolution, Prover};
 use cases::random::Random;
 use checker::records::{encode, Step};
@@ -118,9 +120,9 @@ pub fn loads() -> Vec<Work> {
 }
 
 /// In the formulas of the runs the existentials are 65 to 128. Each variable has one
-/// sign in all clauses but those of the pivots, 121 to 128, of which every clause
-/// has one: so two clauses with a complementary pivot have a resolvent.
-const PIVOTS: i32 = 121;
+/// sign in all clauses but those of the pivots, of which every clause has one: so
+/// two clauses with a complementary pivot have a resolvent.
+const PIVOTS: RangeInclusive<i32> = 65..=72;
 
 /// A formula with so many clauses, whose literals are as many as `widths` tells.
 fn formula(random: &mut Random, clauses: usize, widths: (usize, usize)) -> String {
@@ -130,13 +132,15 @@ fn formula(random: &mut Random, clauses: usize, widths: (usize, usize)) -> Strin
         text += &format!("d {existential} {} 0\n", joined(set));
     }
     for _ in 0..clauses {
-        let others = random.between(widths.0, widths.1) - 1;
-        let mut clause = some(random, PIVOTS as usize - 1, others);
+        let literals = random.between(widths.0, widths.1);
+        let mut clause = some(random, 128, 128);
+        clause.retain(|variable| !PIVOTS.contains(variable));
+        clause.truncate(literals - 1);
         for literal in clause.iter_mut().filter(|literal| **literal % 3 == 0) {
             *literal = -*literal;
         }
-        let pivot = PIVOTS + random.below(8) as i32;
-        clause.push(pivot * random.pick(&[1, -1]));
+        let pivots: Vec<i32> = PIVOTS.collect();
+        clause.push(random.pick(&pivots) * random.pick(&[1, -1]));
         text += &format!("{} 0\n", joined(clause));
     }
     text
@@ -151,8 +155,9 @@ type Propose = fn(&mut Random, &State, clauses: usize) -> Step;
 
 fn resolve(random: &mut Random, state: &State, clauses: usize) -> Step {
     let [first, second] = [0; 2].map(|_| random.between(1, clauses) as u32);
-    let pivot = numbers(state, first).pop().expect("a pivot");
-    resolution(first, second, pivot)
+    let mut literals = numbers(state, first).into_iter();
+    let pivot = literals.find(|literal| PIVOTS.contains(&literal.abs()));
+    resolution(first, second, pivot.expect("a pivot"))
 }
 
 fn reduce(random: &mut Random, state: &State, clauses: usize) -> Step {

@@ -23,15 +23,12 @@ pub fn hold(clause: &[i16]) -> Held
     Held { literals, count }
 }
 
-// The clause without the literal at a place: what stands before it, and what stands behind it.
+// The clause without the literal at a place.
 pub fn hold_without(clause: &[i16], place: usize) -> Held
     requires { ⌜ (length (now clause) ≤ widthLimit) × (place < length (now clause)) ⌝ }
     ensures { λ r. ⌜ ByValue (butAt place (now (clause .entry))) widthLimit (r .literals) (r .count) ⌝ }
 {
     let mut literals = [0i16; WIDTH_LIMIT];
-    let next = place + 1;
-    let front = writing::write_clause(&mut literals, &clause[..place]);
-    let back = writing::write_clause(&mut literals[front..], &clause[next..]);
-    let count = front + back;
+    let count = writing::write_without(&mut literals, clause, place);
     Held { literals, count }
 }

@@ -37,7 +37,7 @@ fn skipping(i: usize, place: usize) -> usize
     i + 1
 }
 
-// The clause without the literal at a place. The turn has no branch.
+// The clause without the literal at a place, in one loop: where that literal stands is no branch, since the processor could not guess it.
 pub fn write_without(tail: &mut [i16], clause: &[i16], place: usize) -> usize
     requires { ⌜ (place < length (now clause)) × (length (now clause) ≤ length (now tail) + 1) ⌝ }
     ensures { λ r. ⌜ Written (butAt place (now (clause .entry))) (now (tail .entry)) (now (tail .exit)) r ⌝ }

@@ -1,17 +1,17 @@
 -- Writing a list to the front of another (specs/Writing.antt), an element at a time, and over the tail of a table that is lent for it. Any element type.
 -- Offers: `Copying`, where a writer stands, with `copying-start`, `copying-kept`, `copying-done`; `Writing`, that it left the rest as it was,
--- with `writing-start`, `writing-more`, `writing-room`, `writing-done`; of what was written, `copied-length`, `copied-within`, `written-as`, `written-copied`, `written-behind`, `held-behind`;
+-- with `writing-start`, `writing-more`, `writing-room`, `writing-done`; of what was written, `copied-length`, `copied-within`, `written-as`, `written-copied`, `written-behind`;
 -- `tail-room`, what a writer requires that is lent the tail of a table from n on.
 use mathlib.Core.Path.{_≡_, refl, ap, sym, _∙_}
 use mathlib.Core.List.{List, [], _∷_, _++_, append-nil}
 use Prim.Native.Nat.{ℕ, suc, _+_, _-_, _<_, _≤_}
 use native.Mathlib.Numerals.{add-one}
 use native.Mathlib.Omega.{arith}
-use borrow.Rule.Slice.PartMut.{putMid, same-len-mid}
+use borrow.Rule.Slice.PartMut.{putMid}
 use lib.ListN.{length, take, drop, set, length-set, length-append, length-drop, length-take, take-append-drop}
 use lib.Seq.{append-snoc, length-take-le, drop-set-lt, take-set-le, take-suc-set, drop-drop, take-append-seam, set-split}
 use Rattle.dqbf.proofs.Laws.Parts.{front-part, tail-lent}
-use Rattle.clauses.specs.Writing.{Written, Copied, ByValue}
+use Rattle.clauses.specs.Writing.{Written, Copied}
 
 module _ {A : Type 0} where
   -- ---- copying
@@ -100,13 +100,6 @@ module _ {A : Type 0} where
       count = omega (arith, w .count, v .count, length-append ys us);
       left = front-part zs xs ys us ws n (w .count) room (w .left) (v .left);
     }
-
-  -- the same in an array of the given size
-  pub held-behind : {ys xs zs us ws : List A} {n m : ℕ} (size : ℕ) → length zs ≡ size → Written ys xs zs n → length ys ≤ length xs
-      → Written us (take (size - n) (drop n zs)) ws m → length ws ≡ length (take (size - n) (drop n zs)) → ByValue (ys ++ us) size (putMid n (size - n) zs ws) (n + m)
-  held-behind {ys} {xs} {zs} {us} {ws} {n} {m} size whole w room v back =
-      let both : Written (ys ++ us) xs (putMid n (size - n) zs ws) (n + m) = rw (← whole) (written-behind w room (rw (← whole) at v)) in
-      record { copied = written-copied both; whole = same-len-mid n (size - n) zs ws back ∙ whole }
 
   -- ---- the tail of a table, lent from n on
 
