@@ -20,10 +20,10 @@ unfoldable pub behind : List ℕ → Option (List ℕ) → Option (List ℕ)
 behind xs none = none
 behind xs (some ys) = some (xs ++ ys)
 
-behind-nil : (out : List ℕ) (o : Option (List ℕ)) → o ≡ behind (take 0 out) o
+pub gather-none : (out : List ℕ) (o : Option (List ℕ)) → o ≡ behind (take 0 out) o
 unfolding behind
-behind-nil out none = refl
-behind-nil out (some xs) = refl
+gather-none out none = refl
+gather-none out (some xs) = refl
 
 behind-more : (out : List ℕ) (n x : ℕ) (o : Option (List ℕ)) → n < length out → behind (take n out) (prepend (some x) o) ≡ behind (take (n + 1) (set out n x)) o
 unfolding behind prepend
@@ -39,9 +39,6 @@ gathered-some o n out h e =
 gathered-none : (o : Option (List ℕ)) (out : List ℕ) → o ≡ none → Gathered o Open out
 unfolding countOf entries
 gathered-none o out e = record { count = rw e; front = rw e }
-
-pub gather-none : (out : List ℕ) (o : Option (List ℕ)) → o ≡ behind (take 0 out) o
-gather-none out o = behind-nil out o
 
 -- Those before `at` are read: n entries of `out` were gathered, and the whole comes to o.
 module _ (signed : Bool) (line out : List ℕ) (n at : ℕ) (o : Option (List ℕ)) (fits : n ≤ length out) (so-far : o ≡ behind (take n out) (listAt signed line at)) where

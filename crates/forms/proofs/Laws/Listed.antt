@@ -1,9 +1,10 @@
--- A number at a place of a list, and what stands there otherwise: one law for each answer of `number_at`.
+-- A number at a place of a list (`Leading`), from byte to byte: one law for each answer of `minus_of`, `digit_at` and `number_at`.
+-- Offers `listAt`, the list from a place on; `list-..`, what one byte makes of a list; `digit-..`, `minus-..`, its front; `number-begins`, `leading-..`, the answers.
 use mathlib.Core.Path.{_≡_, refl, sym, ap, _∙_}
-use mathlib.Core.Bool.{Bool, true, false, cond, _&&_, and-false, true≢false}
+use mathlib.Core.Bool.{Bool, true, false, cond, _&&_, and-false}
 use mathlib.Core.List.{List, [], _∷_}
 use mathlib.Core.Option.{Option, none, some}
-use Prim.Native.Nat.{ℕ, zero, suc, _+_, _-_, _*_, _≤_, _<_}
+use Prim.Native.Nat.{ℕ, _+_, _-_, _*_, _≤_, _<_}
 use native.Mathlib.Nat.{add-zero}
 use native.Mathlib.Numerals.{add-one}
 use native.Mathlib.Omega.{arith}

@@ -5,7 +5,7 @@ use Rattle.forms.proofs.number.is_digit.Tie as tie
 use Rattle.forms.proofs.number.is_digit.Reads as reads
 use Rattle.forms.proofs.number.is_digit.Lts as lts
 
--- src/form.rt:29:1
+-- src/number.rt:15:1
 returns : tie.Need-returns
 unfolding isDigit
 returns c = refl
