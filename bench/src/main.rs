@@ -1,11 +1,9 @@
 //! `bench` prints the tables of docs/PERFORMANCE.md. It fails if the cost of a
-//! run does not grow linearly with its records, or if a driver's call costs too
-//! much more than the typed call.
+//! run does not grow linearly with its records.
 
 mod random;
 mod stack;
 mod time;
-mod typed;
 mod work;
 
 use std::process::ExitCode;
@@ -14,17 +12,12 @@ use std::time::Duration;
 use archive::Archive;
 use differential::library::Lean;
 
-use typed::Typed;
 use work::{List, Work};
 
 const ROUNDS: usize = 301;
 
 /// The whole list may take so many times its half; 2 is linear, 4 quadratic.
 const LINEAR: f64 = 2.5;
-
-/// A driver's call, less one pass over the buffers, may take so many times the
-/// typed call.
-const DRIVER: f64 = 1.3;
 
 fn micros(time: Duration) -> f64 {
     time.as_secs_f64() * 1e6
@@ -97,34 +90,6 @@ fn growths() -> bool {
     linear.iter().all(|&each| each)
 }
 
-/// Prints a driver's call against the typed call; whether it costs little more.
-fn against_typed(name: &str, typed: Typed, work: &Work) -> bool {
-    let times = time::driver(typed, work, ROUNDS);
-    let [driver, typed, pass] = [times.driver, times.typed, times.pass].map(micros);
-    let ratio = (driver - pass) / typed;
-    println!("| {name} | {driver:.1} | {typed:.1} | {pass:.1} | {ratio:.2} |");
-    ratio <= DRIVER
-}
-
-fn typed_calls() -> bool {
-    println!("\n| call | driver, µs | typed, µs | one pass over the buffers, µs | (driver - pass) / typed |");
-    println!("|---|---|---|---|---|");
-    let mut close = true;
-    for work in work::loads() {
-        close &= against_typed(&work.name, Typed::Same, &work);
-    }
-    let lists = work::lists();
-    for list in &lists {
-        close &= against_typed(list.name, Typed::Same, &list.run(list.most));
-    }
-    let single = lists[0].single();
-    for work in &single {
-        close &= against_typed(&work.name, Typed::Same, work);
-    }
-    let name = "run of one record, against one typed step";
-    close & against_typed(name, Typed::Step, &single[0])
-}
-
 fn stacks() {
     println!("\n| call | library, bytes of stack | lean, bytes of stack |");
     println!("|---|---|---|");
@@ -157,16 +122,10 @@ fn main() -> ExitCode {
     comparisons();
     let linear = growths();
     stacks();
-    let close = typed_calls();
-    if !linear {
-        eprintln!("the cost of a run is not linear in its records");
-    }
-    if !close {
-        eprintln!("a driver's call costs more than {DRIVER} times the typed call and one pass over the buffers");
-    }
-    if linear && close {
+    if linear {
         ExitCode::SUCCESS
     } else {
+        eprintln!("the cost of a run is not linear in its records");
         ExitCode::FAILURE
     }
 }

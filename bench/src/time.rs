@@ -1,5 +1,4 @@
-//! Times of one work on the three checkers, or by the driver's call and the typed
-//! call, in the same rounds.
+//! Times of one work on the three checkers, in the same rounds.
 
 use std::time::{Duration, Instant};
 
@@ -8,7 +7,6 @@ use checker::driver::Buffers;
 use differential::library::{self, Lean, Library};
 use differential::oracle;
 
-use crate::typed::{self, Lent, Typed};
 use crate::work::{Input, Work};
 
 /// Medians: the archive, the fast checker, the reference checker.
@@ -81,51 +79,5 @@ pub fn all(work: &Work, rounds: usize) -> Times {
         archive,
         lean,
         reference,
-    }
-}
-
-/// Medians: the driver's call, the typed call, one pass over the buffers.
-pub struct DriverTimes {
-    pub driver: Duration,
-    pub typed: Duration,
-    pub pass: Duration,
-}
-
-fn call_typed(typed: Typed, input: &Input) -> Outcome {
-    let (mut lent, call) = (Lent::of(&input.start), input.call.clone());
-    let start = Instant::now();
-    let word = lent.call(typed, &call);
-    (start.elapsed(), word, lent.buffers())
-}
-
-fn pass(input: &Input) -> Duration {
-    let mut buffers = input.start.clone();
-    let start = Instant::now();
-    typed::pass(&mut buffers);
-    start.elapsed()
-}
-
-/// The medians of a driver's call and of a typed call, which must leave the same
-/// buffers; a step has an answer of its own.
-pub fn driver(typed: Typed, work: &Work, rounds: usize) -> DriverTimes {
-    let mut times = [Vec::new(), Vec::new(), Vec::new()];
-    for round in 0..rounds {
-        let input = work.input(round);
-        // Each is the first in every other round.
-        let early = (round % 2 == 1).then(|| call_typed(typed, input));
-        let (driver_time, word, buffers) = call(&mut Archive, input);
-        let (typed_time, typed_word, typed_buffers) =
-            early.unwrap_or_else(|| call_typed(typed, input));
-        let same_word = word == typed_word || typed == Typed::Step;
-        assert!(same_word && buffers == typed_buffers, "{}", work.name);
-        for (time, each) in times.iter_mut().zip([driver_time, typed_time, pass(input)]) {
-            time.push(each);
-        }
-    }
-    let [driver, typed, pass] = times.map(median);
-    DriverTimes {
-        driver,
-        typed,
-        pass,
     }
 }
