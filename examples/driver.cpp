@@ -9,9 +9,7 @@
 // A file that cannot be read counts as empty.
 static std::vector<uint8_t> bytes_of(const char *path) {
     std::ifstream file(path, std::ios::binary);
-    std::vector<uint8_t> bytes((std::istreambuf_iterator<char>(file)), std::istreambuf_iterator<char>());
-    bytes.reserve(1); // so that the pointer is not null
-    return bytes;
+    return std::vector<uint8_t>((std::istreambuf_iterator<char>(file)), std::istreambuf_iterator<char>());
 }
 
 int main(int argc, char **argv) {
@@ -24,23 +22,23 @@ int main(int argc, char **argv) {
     kefthrun::Checker checker;
 
     const kefthrun::Result loaded = checker.load(text.data(), text.size());
-    if (loaded.kind != KEFTHRUN_LOAD_ACCEPTED) {
+    if (loaded.outcome != KEFTHRUN_LOAD_ACCEPTED) {
         std::printf("formula %u %u\n", loaded.first, loaded.second);
         return 0;
     }
     const kefthrun::Result ran = checker.run(records.data(), records.size());
-    if (ran.kind == KEFTHRUN_RUN_REFUTED) std::printf("refuted %u %u\n", ran.first, ran.second);
-    if (ran.kind == KEFTHRUN_RUN_OPEN) std::printf("open %u\n", ran.first);
-    if (ran.kind == KEFTHRUN_RUN_BAD) std::printf("bad %u %u\n", ran.first, ran.second);
+    if (ran.outcome == KEFTHRUN_RUN_REFUTED) std::printf("refuted %u %u\n", ran.first, ran.second);
+    if (ran.outcome == KEFTHRUN_RUN_OPEN) std::printf("open %u\n", ran.first);
+    if (ran.outcome == KEFTHRUN_RUN_BAD) std::printf("bad %u %u\n", ran.first, ran.second);
 
-    for (uint32_t c = 1; checker.clause(c).kind == KEFTHRUN_ANSWERED; c++) {
+    for (uint32_t c = 1; checker.clause(c).outcome == KEFTHRUN_ANSWERED; c++) {
         std::printf("clause %u:", c);
         for (int literal : checker.literals(c)) std::printf(" %d", literal);
         std::printf("\n");
     }
     for (uint32_t v = 1;; v++) {
         const kefthrun::Result variable = checker.variable(v);
-        if (variable.kind != KEFTHRUN_ANSWERED) break;
+        if (variable.outcome != KEFTHRUN_ANSWERED) break;
         std::printf("variable %u: kind %u, universals %u\n", v, variable.first, variable.second);
     }
     return 0;

@@ -4,16 +4,22 @@
  * clauses, clauses, literals, accepted steps, lowest empty clause (0: none). The driver owns every buffer and keeps it from call to call; a call keeps no
  * pointer to one. Bytes past the sizes below are never changed. Nothing needs to be cleared before a load.
  *
- * The driver's duties. A pointer is never null, also where its length is 0. No two buffers of one call share a byte. Nothing else writes to a buffer
- * while a call runs.
+ * The driver's duties. The library is of this interface: kefthrun_interface() == KEFTHRUN_INTERFACE. A pointer is never null, also where its length is 0. No
+ * two buffers of one call share a byte. Nothing else writes to a buffer while a call runs. The class kefthrun::Checker sees to the first three.
  *
- * Results. A result has four 16-bit fields, the lowest first: the case, two values, and 0. Too few bytes in a buffer is refusal 1; nothing is changed then,
- * except that a load zeroes a state of 16 bytes or more. docs/FORMAT.md lists the numbers of refusal. */
+ * Results. A result has four 16-bit fields, the lowest first: the case, which is never 0, two values, and 0. Too few bytes in a buffer is refusal 1; nothing
+ * is changed then, except that a load zeroes a state of 16 bytes or more.
+ *
+ * Stack. No call uses the heap or recursion. A load was measured to use 91,648 bytes of stack, a run 25,808, a question or a shown clause 25,520
+ * (docs/PERFORMANCE.md): lend a thread 128 KB. */
 #ifndef KEFTHRUN_H
 #define KEFTHRUN_H
 
 #include <stddef.h>
 #include <stdint.h>
+
+/* The number of this interface: one higher with each change of a function, a buffer's size or a result. */
+#define KEFTHRUN_INTERFACE 1u
 
 /* Sizes of the buffers, in bytes. */
 enum {
@@ -24,14 +30,44 @@ enum {
     KEFTHRUN_STATE_BYTES = 16
 };
 
-/* The cases of a result. */
-enum { KEFTHRUN_LOAD_ACCEPTED = 0, KEFTHRUN_LOAD_REFUSED = 1 };
-enum { KEFTHRUN_RUN_REFUTED = 0, KEFTHRUN_RUN_OPEN = 1, KEFTHRUN_RUN_BAD = 2 };
-enum { KEFTHRUN_ANSWERED = 0, KEFTHRUN_REFUSED = 1 };
+/* The cases of a result: of a load, of a run, of a question or a shown clause. */
+enum { KEFTHRUN_LOAD_ACCEPTED = 1, KEFTHRUN_LOAD_REFUSED = 4 };
+enum { KEFTHRUN_RUN_REFUTED = 1, KEFTHRUN_RUN_OPEN = 2, KEFTHRUN_RUN_BAD = 3 };
+enum { KEFTHRUN_ANSWERED = 1, KEFTHRUN_REFUSED = 2 };
+
+/* The kinds of variables. */
+enum { KEFTHRUN_KIND_UNDECLARED = 0, KEFTHRUN_KIND_UNIVERSAL = 1, KEFTHRUN_KIND_EXISTENTIAL = 2, KEFTHRUN_KIND_FORK = 3 };
+
+/* The numbers of refusal: of any call, of a formula, of a step or a list of steps (21 and 22 also of a question). */
+enum {
+    KEFTHRUN_TABLE_TOO_SHORT = 1, /* a table is lent too short */
+    KEFTHRUN_NOT_WELL_FORMED = 2, /* the tables are not well formed */
+
+    KEFTHRUN_NO_FORM = 10,                 /* a line has no form of the format, or stands out of order; the header is missing */
+    KEFTHRUN_OVER_LIMIT = 11,              /* over a limit of the text; more than 32,768 bytes of records */
+    KEFTHRUN_VARIABLE = 12,                /* above V, declared twice, or used undeclared; a set member that is no earlier universal */
+    KEFTHRUN_COMPLEMENTARY_IN_CLAUSE = 13, /* complementary literals in a clause */
+    KEFTHRUN_CLAUSE_COUNT = 14,            /* the number of clauses is not C */
+
+    KEFTHRUN_MALFORMED_RECORD = 20,           /* kind not 1 to 3, a byte that should be 0 is not, or fewer than 16 bytes are left */
+    KEFTHRUN_UNKNOWN_CLAUSE = 21,             /* clause number 0 or above the count */
+    KEFTHRUN_NOT_IN_CLAUSE = 22,              /* the literal, or the complement, is not in its clause */
+    KEFTHRUN_UNKNOWN_VARIABLE = 22,           /* a question about a variable that is not in use */
+    KEFTHRUN_COMPLEMENTARY_IN_RESOLVENT = 23, /* the resolvent has complementary literals */
+    KEFTHRUN_TOO_WIDE = 24,                   /* the resolvent has more than 32 literals */
+    KEFTHRUN_NO_ROOM = 25,                    /* no room for more clauses, literals or variables */
+    KEFTHRUN_NOT_UNIVERSAL = 26,              /* the literal is not universal */
+    KEFTHRUN_READ_BY_ANOTHER = 27,            /* another literal's set has the variable */
+    KEFTHRUN_MASKS = 28,                      /* the masks do not make the clause */
+    KEFTHRUN_COMPARABLE = 29                  /* one part's set contains the other's */
+};
 
 #ifdef __cplusplus
 extern "C" {
 #endif
+
+/* The number of the library's interface. */
+uint32_t kefthrun_interface(void);
 
 /* Loads the text of a formula. Accepted; or refused with line (0: the whole text) and number. */
 uint64_t kefthrun_load(const uint8_t *text, size_t text_length, uint8_t *literals, size_t literals_length, uint8_t *ends, size_t ends_length,
@@ -42,7 +78,8 @@ uint64_t kefthrun_load(const uint8_t *text, size_t text_length, uint8_t *literal
 uint64_t kefthrun_run(const uint8_t *records, size_t records_length, uint8_t *literals, size_t literals_length, uint8_t *ends, size_t ends_length,
                       uint8_t *sets, size_t sets_length, uint8_t *kinds, size_t kinds_length, uint8_t *state, size_t state_length);
 
-/* Where a clause stands. Answered with its place and its length, both in entries of the literals; or refused with a number. */
+/* Where a clause stands: always answered with its place and its length, both in entries of the literals. For an unknown clause number, short or ill-formed
+ * tables it is the empty stretch at the start, 0 and 0; kefthrun_clause tells these apart from an empty clause. */
 uint64_t kefthrun_show(const uint8_t *literals, size_t literals_length, const uint8_t *ends, size_t ends_length, const uint8_t *sets, size_t sets_length,
                        const uint8_t *kinds, size_t kinds_length, const uint8_t *state, size_t state_length, uint32_t clause);
 
@@ -72,25 +109,31 @@ static inline int kefthrun_literal(const uint8_t *literals, size_t entry) {
 #ifdef __cplusplus
 
 #include <array>
+#include <stdexcept>
 #include <vector>
 
 namespace kefthrun {
 
-/* A result, taken apart. */
+/* A result, taken apart: the outcome is its case. */
 struct Result {
-    unsigned kind, first, second;
-    explicit Result(uint64_t r) : kind(kefthrun_case(r)), first(kefthrun_first(r)), second(kefthrun_second(r)) {}
+    unsigned outcome, first, second;
+    explicit Result(uint64_t r) : outcome(kefthrun_case(r)), first(kefthrun_first(r)), second(kefthrun_second(r)) {}
 };
 
 /* One formula with its steps: owns the five buffers. */
 class Checker {
 public:
+    /* Throws std::runtime_error where the library has another interface than this header. */
+    Checker() {
+        if (kefthrun_interface() != KEFTHRUN_INTERFACE) throw std::runtime_error("kefthrun: the library has another interface than its header");
+    }
+    /* A null pointer, as an empty vector's, is no bytes; with a length it is an std::invalid_argument. */
     Result load(const uint8_t *text, size_t length) {
-        return Result(kefthrun_load(text, length, literals_.data(), literals_.size(), ends_.data(), ends_.size(), sets_.data(), sets_.size(), kinds_.data(),
+        return Result(kefthrun_load(some(text, length), length, literals_.data(), literals_.size(), ends_.data(), ends_.size(), sets_.data(), sets_.size(), kinds_.data(),
                                     kinds_.size(), state_.data(), state_.size()));
     }
     Result run(const uint8_t *records, size_t length) {
-        return Result(kefthrun_run(records, length, literals_.data(), literals_.size(), ends_.data(), ends_.size(), sets_.data(), sets_.size(),
+        return Result(kefthrun_run(some(records, length), length, literals_.data(), literals_.size(), ends_.data(), ends_.size(), sets_.data(), sets_.size(),
                                    kinds_.data(), kinds_.size(), state_.data(), state_.size()));
     }
     Result clause(uint32_t number) const {
@@ -101,21 +144,27 @@ public:
         return Result(kefthrun_variable(literals_.data(), literals_.size(), ends_.data(), ends_.size(), sets_.data(), sets_.size(), kinds_.data(),
                                         kinds_.size(), state_.data(), state_.size(), number));
     }
-    /* Place and length of a clause in the literals. */
+    /* Place and length of a clause in the literals; 0 and 0 for a number that the question above refuses. */
     Result show(uint32_t number) const {
         return Result(kefthrun_show(literals_.data(), literals_.size(), ends_.data(), ends_.size(), sets_.data(), sets_.size(), kinds_.data(),
                                     kinds_.size(), state_.data(), state_.size(), number));
     }
-    /* The literals of a clause, copied; none for a number that is refused. */
+    /* The literals of a clause, copied; none for a number that the question refuses. */
     std::vector<int> literals(uint32_t number) const {
         const Result shown = show(number);
         std::vector<int> copied;
-        if (shown.kind != KEFTHRUN_ANSWERED) return copied;
         for (unsigned i = 0; i < shown.second; i++) copied.push_back(kefthrun_literal(literals_.data(), shown.first + i));
         return copied;
     }
 
 private:
+    /* A pointer that is never null. */
+    static const uint8_t *some(const uint8_t *bytes, size_t length) {
+        static const uint8_t none = 0;
+        if (bytes != nullptr) return bytes;
+        if (length != 0) throw std::invalid_argument("kefthrun: a null pointer with a length");
+        return &none;
+    }
     std::array<uint8_t, KEFTHRUN_LITERAL_BYTES> literals_{};
     std::array<uint8_t, KEFTHRUN_END_BYTES> ends_{};
     std::array<uint8_t, KEFTHRUN_SET_BYTES> sets_{};

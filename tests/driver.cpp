@@ -92,30 +92,36 @@ static std::vector<uint8_t> listing() {
     return all;
 }
 
-static uint64_t packed(uint64_t kind, uint64_t a, uint64_t b) { return kind + (a << 16) + (b << 32); }
+static uint64_t packed(uint64_t outcome, uint64_t a, uint64_t b) { return outcome + (a << 16) + (b << 32); }
 
 static void whole() {
     Buffers b;
-    expect("accepted", b.load(formula) == packed(0, 0, 0));
-    expect("refuted 3 5", b.run(listing()) == packed(0, 3, 5));
-    expect("length of clause 1", b.ask(kefthrun_clause, 1) == packed(0, 2, 0));
-    expect("clause 6 unknown", b.ask(kefthrun_clause, 6) == packed(1, 21, 0));
-    expect("clause 65537 unknown", b.ask(kefthrun_clause, 65537) == packed(1, 21, 0));
-    expect("place of clause 2", b.ask(kefthrun_show, 2) == packed(0, 2, 2));
-    expect("place of the empty clause", b.ask(kefthrun_show, 5) == packed(0, 6, 0));
-    expect("clause 0 unknown", b.ask(kefthrun_show, 0) == packed(1, 21, 0));
+    expect("the header's interface", kefthrun_interface() == KEFTHRUN_INTERFACE);
+    expect("accepted", b.load(formula) == packed(1, 0, 0));
+    expect("open before the steps", b.run({}) == packed(2, 0, 0));
+    expect("refuted 3 5", b.run(listing()) == packed(1, 3, 5));
+    expect("length of clause 1", b.ask(kefthrun_clause, 1) == packed(1, 2, 0));
+    expect("length of the empty clause", b.ask(kefthrun_clause, 5) == packed(1, 0, 0));
+    for (uint32_t unknown : {0u, 6u, 65537u, 0xffffffffu}) {
+        expect("an unknown clause is refused", b.ask(kefthrun_clause, unknown) == packed(2, 21, 0));
+        expect("and shown as the empty stretch at the start", b.ask(kefthrun_show, unknown) == packed(1, 0, 0));
+    }
+    expect("place of clause 2", b.ask(kefthrun_show, 2) == packed(1, 2, 2));
+    expect("place of the empty clause", b.ask(kefthrun_show, 5) == packed(1, 6, 0));
     expect("its literals", kefthrun_literal(b[0].data(), 2) == -1 && kefthrun_literal(b[0].data(), 3) == -2);
-    expect("variable 1", b.ask(kefthrun_variable, 1) == packed(0, 1, 1));
-    expect("variable 2", b.ask(kefthrun_variable, 2) == packed(0, 2, 0));
-    expect("variable 3 not in use", b.ask(kefthrun_variable, 3) == packed(1, 22, 0));
+    expect("variable 1", b.ask(kefthrun_variable, 1) == packed(1, 1, 1));
+    expect("variable 2", b.ask(kefthrun_variable, 2) == packed(1, 2, 0));
+    expect("variable 3 not in use", b.ask(kefthrun_variable, 3) == packed(2, 22, 0));
     const std::vector<std::vector<uint8_t>> before = b.bytes();
-    expect("a refused step names itself", b.run(record(4, 0, 0, 0)) == packed(2, 1, 20));
+    expect("a refused step names itself", b.run(record(4, 0, 0, 0)) == packed(3, 1, 20));
     expect("and changes nothing", b.bytes() == before);
     b[3].data()[0] = 9;
     const std::vector<std::vector<uint8_t>> broken = b.bytes();
-    expect("ill-formed tables", b.run(listing()) == packed(2, 0, 2) && b.ask(kefthrun_show, 1) == packed(1, 2, 0));
+    expect("a run over ill-formed tables", b.run(listing()) == packed(3, 0, 2));
+    expect("a question about them", b.ask(kefthrun_clause, 1) == packed(2, 2, 0) && b.ask(kefthrun_variable, 1) == packed(2, 2, 0));
+    expect("a clause of them", b.ask(kefthrun_show, 2) == packed(1, 0, 0));
     expect("stay as they are", b.bytes() == broken);
-    expect("a refused text", b.load("p cnf 1\n") == packed(1, 1, 10));
+    expect("a refused text", b.load("p cnf 1\n") == packed(4, 1, 10));
     for (int i = 0; i < 5; i++) expect("leaves zeros", b[i].bytes() == std::vector<uint8_t>(sizes[i], 0));
     expect("guards", b.guards_stand());
 }
@@ -124,11 +130,11 @@ static void whole() {
 static void brief(int which) {
     Buffers b(which, -1);
     const std::vector<std::vector<uint8_t>> before = b.bytes();
-    expect("a short run is 1", b.run(listing()) == packed(2, 0, 1));
-    expect("a short show is 1", b.ask(kefthrun_show, 1) == packed(1, 1, 0));
-    expect("a short question is 1", b.ask(kefthrun_clause, 1) == packed(1, 1, 0) && b.ask(kefthrun_variable, 1) == packed(1, 1, 0));
+    expect("a short run is 1", b.run(listing()) == packed(3, 0, 1));
+    expect("a short show is empty", b.ask(kefthrun_show, 1) == packed(1, 0, 0));
+    expect("a short question is 1", b.ask(kefthrun_clause, 1) == packed(2, 1, 0) && b.ask(kefthrun_variable, 1) == packed(2, 1, 0));
     expect("nothing is changed", b.bytes() == before);
-    expect("a short load is 1", b.load(formula) == packed(1, 0, 1));
+    expect("a short load is 1", b.load(formula) == packed(4, 0, 1));
     for (int i = 0; i < 4; i++) expect("tables stay", b[i].bytes() == before[static_cast<size_t>(i)]);
     expect("a whole state is zeroed, a short one stays", which == 4 ? b[4].bytes() == before[4] : b[4].bytes() == std::vector<uint8_t>(16, 0));
     expect("guards", b.guards_stand());
@@ -137,16 +143,48 @@ static void brief(int which) {
 // One buffer is longer: the bytes past its size stay.
 static void longer(int which) {
     Buffers b(which, 40);
-    expect("accepted", b.load(formula) == packed(0, 0, 0));
-    expect("refuted 3 5", b.run(listing()) == packed(0, 3, 5));
+    expect("accepted", b.load(formula) == packed(1, 0, 0));
+    expect("refuted 3 5", b.run(listing()) == packed(1, 3, 5));
     expect("bytes past the size stay", b[which].fresh_from(sizes[which]));
-    expect("a refused text", b.load("p cnf 1\n") == packed(1, 1, 10));
+    expect("a refused text", b.load("p cnf 1\n") == packed(4, 1, 10));
     expect("bytes past the size stay", b[which].fresh_from(sizes[which]));
     expect("guards", b.guards_stand());
 }
 
+static bool is(const kefthrun::Result &r, unsigned outcome, unsigned first, unsigned second) {
+    return r.outcome == outcome && r.first == first && r.second == second;
+}
+
+// The class: a cleared result is no case, and a null pointer is no bytes.
+static void class_in_cpp() {
+    const kefthrun::Result cleared(0);
+    for (unsigned some : {KEFTHRUN_LOAD_ACCEPTED + 0u, KEFTHRUN_LOAD_REFUSED + 0u, KEFTHRUN_RUN_REFUTED + 0u, KEFTHRUN_RUN_OPEN + 0u, KEFTHRUN_RUN_BAD + 0u,
+                          KEFTHRUN_ANSWERED + 0u, KEFTHRUN_REFUSED + 0u})
+        expect("0 is no case", cleared.outcome != some);
+    kefthrun::Checker checker;
+    const std::vector<uint8_t> none;
+    expect("no text", is(checker.load(none.data(), none.size()), KEFTHRUN_LOAD_REFUSED, 1, KEFTHRUN_NO_FORM));
+    const std::vector<uint8_t> text(formula.begin(), formula.end());
+    expect("accepted", is(checker.load(text.data(), text.size()), KEFTHRUN_LOAD_ACCEPTED, 0, 0));
+    expect("no records", is(checker.run(none.data(), none.size()), KEFTHRUN_RUN_OPEN, 0, 0));
+    expect("no bytes at all", is(checker.run(nullptr, 0), KEFTHRUN_RUN_OPEN, 0, 0));
+    bool thrown = false;
+    try {
+        checker.run(nullptr, 16);
+    } catch (const std::invalid_argument &) {
+        thrown = true;
+    }
+    expect("a null pointer with a length", thrown);
+    expect("refuted 3 5", is(checker.run(listing().data(), listing().size()), KEFTHRUN_RUN_REFUTED, 3, 5));
+    expect("clause 2", checker.literals(2) == std::vector<int>({-1, -2}));
+    expect("no clause 6", checker.literals(6).empty() && is(checker.clause(6), KEFTHRUN_REFUSED, KEFTHRUN_UNKNOWN_CLAUSE, 0));
+    expect("variable 1", is(checker.variable(1), KEFTHRUN_ANSWERED, KEFTHRUN_KIND_UNIVERSAL, 1));
+    expect("no variable 3", is(checker.variable(3), KEFTHRUN_REFUSED, KEFTHRUN_UNKNOWN_VARIABLE, 0));
+}
+
 int main() {
     whole();
+    class_in_cpp();
     for (int i = 0; i < 5; i++) {
         brief(i);
         longer(i);

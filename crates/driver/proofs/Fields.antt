@@ -33,14 +33,14 @@ use Rattle.buffers.proofs.Laws.{lent-long}
 use Rattle.results.proofs.Laws.{case-is, first-is, second-is}
 use Rattle.driver.proofs.Laws.Short.{ShortVerdict, run-short, ShortLoaded, load-short, length-short, kind-short, size-short}
 
-fields-are : (k a b : ℕ) → k < 65536 → a < 65536 → b < 65536 → fields (packed k a b) ≡ k ∷ a ∷ b ∷ []
+pub fields-are : (k a b : ℕ) → k < 65536 → a < 65536 → b < 65536 → fields (packed k a b) ≡ k ∷ a ∷ b ∷ []
 unfolding fields
 fields-are k a b h i j = rw (case-is k a b h, first-is k a b h i, second-is k a b h j)
 
 load-fields : (o : Reading.Loaded) → ShortLoaded o → fields (loadResult (loadAnswer o)) ≡ loadFields (loadAnswer o)
 unfolding loadAnswer loadResult loadFields ShortLoaded
-load-fields (accepted φ) h = fields-are 0 0 0 (omega arith) (omega arith) (omega arith)
-load-fields (refused line number) h = fields-are 1 line number (omega arith) (h .0) (h .1)
+load-fields (accepted φ) h = fields-are 1 0 0 (omega arith) (omega arith) (omega arith)
+load-fields (refused line number) h = fields-are 4 line number (omega arith) (h .0) (h .1)
 
 pub load-tells : LoadTells
 unfolding loadBytes loadOf loadedOn loaded
@@ -48,9 +48,9 @@ load-tells b text w = rw (w, lent-long b w) (load-fields (load text) (load-short
 
 verdict-fields : (v : Verdict) → ShortVerdict v → fields (runResult (runAnswer v)) ≡ runFields (runAnswer v)
 unfolding runAnswer runResult runFields ShortVerdict
-verdict-fields (refuted s k) h = fields-are 0 s k (omega arith) (h .0) (h .1)
-verdict-fields (open′ s) h = fields-are 1 s 0 (omega arith) h (omega arith)
-verdict-fields (bad s r) h = fields-are 2 s (r .number) (omega arith) (h .0) (h .1)
+verdict-fields (refuted s k) h = fields-are 1 s k (omega arith) (h .0) (h .1)
+verdict-fields (open′ s) h = fields-are 2 s 0 (omega arith) h (omega arith)
+verdict-fields (bad s r) h = fields-are 3 s (r .number) (omega arith) (h .0) (h .1)
 
 module _ (b : Buffers) (records : List ℕ) (w : whole b ≡ true) where
   run-fields : (c : Bool) → wellFormed (tablesIn b) (stateIn b) ≡ c
@@ -59,7 +59,7 @@ module _ (b : Buffers) (records : List ℕ) (w : whole b ≡ true) where
   run-fields true e =
       let v = valid-held (tablesIn b) (stateIn b) (lent-long b w) e in
       rw (lent-long b w, e) (verdict-fields (run tables (modelIn (tablesIn b) (stateIn b)) records .verdict) (run-short (modelIn (tablesIn b) (stateIn b)) v records))
-  run-fields false e = rw (lent-long b w, e) (fields-are 2 0 2 (omega arith) (omega arith) (omega arith))
+  run-fields false e = rw (lent-long b w, e) (fields-are 3 0 2 (omega arith) (omega arith) (omega arith))
 
 pub run-tells : RunTells
 unfolding runBytes ran
@@ -72,26 +72,26 @@ module _ (t : Tables) (s : State) (lent : long t ≡ true) (n : ℕ) where
       → fields (clauseResult (cond c (noClause (refusal 21)) (clauseLength (length (clauseAt (modelIn t s) n)))))
       ≡ clauseFields (cond c (noClause (refusal 21)) (clauseLength (length (clauseAt (modelIn t s) n))))
   unfolding clauseResult clauseFields
-  asked-clause v true = fields-are 1 21 0 (omega arith) (omega arith) (omega arith)
-  asked-clause v false = fields-are 0 (length (clauseAt (modelIn t s) n)) 0 (omega arith) (length-short (modelIn t s) v n) (omega arith)
+  asked-clause v true = fields-are 2 21 0 (omega arith) (omega arith) (omega arith)
+  asked-clause v false = fields-are 1 (length (clauseAt (modelIn t s) n)) 0 (omega arith) (length-short (modelIn t s) v n) (omega arith)
 
   clause-fields : (c : Bool) → wellFormed t s ≡ c → fields (clauseResult (lengthAnswer t s n)) ≡ clauseFields (lengthAnswer t s n)
   unfolding lengthAnswer unlessRefused askClause clauseResult clauseFields
   clause-fields true e = rw (usable t s lent e) (asked-clause (valid-held t s lent e) (unknown (modelIn t s) n))
-  clause-fields false e = rw (unusable-ill t s lent e) (fields-are 1 2 0 (omega arith) (omega arith) (omega arith))
+  clause-fields false e = rw (unusable-ill t s lent e) (fields-are 2 2 0 (omega arith) (omega arith) (omega arith))
 
   asked-variable : Valid tables (modelIn t s) → (c : Bool)
       → fields (variableResult (cond c (noVariable (refusal 22)) (variable (kindOf (modelIn t s) n) (size (setOf (modelIn t s) n)))))
       ≡ variableFields (cond c (noVariable (refusal 22)) (variable (kindOf (modelIn t s) n) (size (setOf (modelIn t s) n))))
   unfolding variableResult variableFields
-  asked-variable v true = fields-are 1 22 0 (omega arith) (omega arith) (omega arith)
+  asked-variable v true = fields-are 2 22 0 (omega arith) (omega arith) (omega arith)
   asked-variable v false =
-      fields-are 0 (kindOf (modelIn t s) n) (size (setOf (modelIn t s) n)) (omega arith) (kind-short (modelIn t s) v n) (size-short (modelIn t s) v n)
+      fields-are 1 (kindOf (modelIn t s) n) (size (setOf (modelIn t s) n)) (omega arith) (kind-short (modelIn t s) v n) (size-short (modelIn t s) v n)
 
   variable-fields : (c : Bool) → wellFormed t s ≡ c → fields (variableResult (variableAnswer t s n)) ≡ variableFields (variableAnswer t s n)
   unfolding variableAnswer unlessRefused askVariable variableResult variableFields
   variable-fields true e = rw (usable t s lent e) (asked-variable (valid-held t s lent e) (eqb n 0 || ltb (used (modelIn t s)) n))
-  variable-fields false e = rw (unusable-ill t s lent e) (fields-are 1 2 0 (omega arith) (omega arith) (omega arith))
+  variable-fields false e = rw (unusable-ill t s lent e) (fields-are 2 2 0 (omega arith) (omega arith) (omega arith))
 
 pub clause-tells : ClauseTells
 unfolding clauseBytes

@@ -40,11 +40,11 @@ use Rattle.driver.proofs.RoundTrip.{read-back}
 
 -- ---- results
 
-refuted-is : (x : RunAnswer) → field 0 (runResult x) ≡ 0 → (s : StepNumber) × (k : ClauseNumber) × (x ≡ RunAnswer.Refuted s k)
+refuted-is : (x : RunAnswer) → field 0 (runResult x) ≡ 1 → (s : StepNumber) × (k : ClauseNumber) × (x ≡ RunAnswer.Refuted s k)
 unfolding runResult
 refuted-is (RunAnswer.Refuted s k) h = (s, k, refl)
-refuted-is (RunAnswer.Open s) h = absurd (omega (arith, case-is 1 (s .0) 0 (omega arith)))
-refuted-is (RunAnswer.Bad s n) h = absurd (omega (arith, case-is 2 (s .0) n (omega arith)))
+refuted-is (RunAnswer.Open s) h = absurd (omega (arith, case-is 2 (s .0) 0 (omega arith)))
+refuted-is (RunAnswer.Bad s n) h = absurd (omega (arith, case-is 3 (s .0) n (omega arith)))
 
 -- ---- buffers as lent tables
 
@@ -107,12 +107,12 @@ module _ (b : Buffers) (g : Good b) (records : List ℕ) where
       ap lentIn buffers-are ∙ after-lent b ran-model (g .room) ran-valid
       ∙ (unfold ranOn ran-model in λ i. record { tables = sym run-is i .tables; state = sym run-is i .state })
 
-  run-refuted : field 0 (runBytes b records .result) ≡ 0
+  run-refuted : field 0 (runBytes b records .result) ≡ 1
       → (s : StepNumber) × (k : ClauseNumber) × (Lending.ran (RunAnswer.Refuted s k) ≡ Lending.answer (lentIn b) (Lending.runCall records))
   unfolding Lending.answer lentIn runBytes ran
   run-refuted h =
       let x = runOf (tablesIn b) (stateIn b) records .answer in
-      let told : field 0 (runResult x) ≡ 0 = rw (g .room) at h in
+      let told : field 0 (runResult x) ≡ 1 = rw (g .room) at h in
       let r = refuted-is x told in
       (r .0, r .1, ap Lending.ran (sym (r .2)))
 
@@ -120,7 +120,7 @@ other-stays : (x : Lent) → Lending.next x Lending.otherCall ≡ x
 unfolding Lending.next
 other-stays x = refl
 
-results-are : (b : Buffers) → Good b → (calls : List Call) (r : ℕ) → r ∈ runResults b calls → field 0 r ≡ 0
+results-are : (b : Buffers) → Good b → (calls : List Call) (r : ℕ) → r ∈ runResults b calls → field 0 r ≡ 1
     → (s : StepNumber) × (k : ClauseNumber) × (Lending.ran (RunAnswer.Refuted s k) ∈ answers (lentIn b) (map call calls))
 unfolding runResults answers call
 results-are b g [] r q h = absurd (List·Memᴰ·not-nil q)
@@ -134,16 +134,16 @@ results-are b g (otherCall ∷ calls) r q h = let x = results-are b g calls r q 
 
 -- ---- a load
 
-never-refused : (b : Buffers) (line number : ℕ) → field 0 (loaded b (loadedOn (tablesIn b) (refused line number)) .result) ≡ 0 → ⊥
+never-refused : (b : Buffers) (line number : ℕ) → field 0 (loaded b (loadedOn (tablesIn b) (refused line number)) .result) ≡ 1 → ⊥
 unfolding loaded loadedOn loadAnswer loadResult
-never-refused b line number h = omega (arith, case-is 1 line number (omega arith))
+never-refused b line number h = omega (arith, case-is 4 line number (omega arith))
 
-never-short : (b : Buffers) → field 0 (loadShort b .result) ≡ 0 → ⊥
+never-short : (b : Buffers) → field 0 (loadShort b .result) ≡ 1 → ⊥
 unfolding loadShort loadResult
-never-short b h = omega (arith, case-is 1 0 1 (omega arith))
+never-short b h = omega (arith, case-is 4 0 1 (omega arith))
 
 module _ (b : Buffers) (text : List ℕ) where
-  load-whole : (c : Bool) → whole b ≡ c → field 0 (loadBytes b text .result) ≡ 0 → whole b ≡ true
+  load-whole : (c : Bool) → whole b ≡ c → field 0 (loadBytes b text .result) ≡ 1 → whole b ≡ true
   unfolding loadBytes
   load-whole true e h = e
   load-whole false e h = absurd (never-short b (rw e at h))
@@ -153,7 +153,7 @@ module _ (b : Buffers) (text : List ℕ) where
     unfolding loadBytes loadOf
     load-is = rw (w, lent-long b w)
 
-    load-accepted : (o : Reading.Loaded) → load text ≡ o → field 0 (loadBytes b text .result) ≡ 0 → (φ : Formula) × (load text ≡ accepted φ)
+    load-accepted : (o : Reading.Loaded) → load text ≡ o → field 0 (loadBytes b text .result) ≡ 1 → (φ : Formula) × (load text ≡ accepted φ)
     load-accepted (accepted φ) e h = (φ, e)
     load-accepted (refused line number) e h = absurd (never-refused b line number (rw (load-is, e) at h))
 
@@ -162,7 +162,7 @@ module _ (b : Buffers) (text : List ℕ) where
       unfolding after loaded loadedOn loadedModel
       loaded-are = ap (λ (x : After). x .buffers) load-is ∙ ap (λ (o : Reading.Loaded). loaded b (loadedOn (tablesIn b) o) .buffers) e
 
-      loaded-refutes : (calls : List Call) (r : ℕ) → r ∈ runResults (loadBytes b text .buffers) calls → field 0 r ≡ 0 → Refuted φ
+      loaded-refutes : (calls : List Call) (r : ℕ) → r ∈ runResults (loadBytes b text .buffers) calls → field 0 r ≡ 1 → Refuted φ
       unfolding Lending.loaded
       loaded-refutes calls r q h =
           let v = load-valid text φ e in

@@ -1,14 +1,14 @@
--- The exported calls over the driver's buffers: decode, the typed call's own definition, encode (document 01, "The solver's driver is C++").
+-- The exported calls over the driver's buffers: decode, the definition of the call over tables, encode (document 01, "The solver's driver is C++").
 -- "too few bytes in any of them is 1, and nothing lent is changed then, except that a load zeroes a state lent whole."
 -- Offers `After`, `loadBytes`, `runBytes`, and the results of the calls that write nothing: `showBytes`, `clauseBytes`, `variableBytes`; `loadWhole` and `runWhole`
--- are those over buffers that are long enough.
+-- are those over buffers that are long enough. `interfaceNumber` is the number of this interface.
 use mathlib.Core.Bool.{cond}
-use mathlib.Core.List.{List}
+use mathlib.Core.List.{List, []}
 use Prim.Native.Nat.{ℕ}
 use lib.ListN.{replicate}
 use Rattle.dqbf.specs.Refusal.{refusal}
 use Rattle.dqbf.specs.Questions.{noClause, noVariable}
-use Rattle.questions.specs.Answers.{lengthAnswer, variableAnswer, shownStart}
+use Rattle.questions.specs.Answers.{lengthAnswer, variableAnswer, shownStart, shownClause}
 use Rattle.dqdimacs.specs.Loading.{AfterLoad, loadOf}
 use Rattle.dqdimacs.specs.declared.LoadAnswer.the-variants as Load
 use Rattle.steps.specs.Steps.{AfterRun, runOf}
@@ -16,6 +16,10 @@ use Rattle.steps.specs.declared.RunAnswer.the-variants as Run
 use Rattle.codec.specs.Bytes.{over}
 use Rattle.buffers.specs.Buffers.{Buffers, buffersOf, stateSize, stateWhole, whole, tablesIn, stateIn, written}
 use Rattle.results.specs.Results.{loadResult, runResult, clauseResult, showResult, variableResult}
+
+-- One higher with each change of a function, a buffer's size or a result: KEFTHRUN_INTERFACE of include/kefthrun.h is the same.
+abbrev pub interfaceNumber : ℕ
+interfaceNumber = 1
 
 -- the buffers behind a call, and its result
 pub record After : Type 0 where
@@ -55,9 +59,9 @@ runBytes b records = cond (whole b) (runWhole b records) (runShort b)
 
 -- ---- calls that write nothing
 
+-- "For an unknown clause number, short or ill-formed tables it is the empty stretch at the start"
 unfoldable pub showBytes : Buffers → ℕ → ℕ
-showBytes b c =
-    cond (whole b) (showResult (shownStart (tablesIn b) (stateIn b) c) (lengthAnswer (tablesIn b) (stateIn b) c)) (showResult 0 (noClause (refusal 1)))
+showBytes b c = cond (whole b) (showResult (shownStart (tablesIn b) (stateIn b) c) (shownClause (tablesIn b) (stateIn b) c)) (showResult 0 [])
 
 unfoldable pub clauseBytes : Buffers → ℕ → ℕ
 clauseBytes b c = cond (whole b) (clauseResult (lengthAnswer (tablesIn b) (stateIn b) c)) (clauseResult (noClause (refusal 1)))

@@ -62,7 +62,7 @@ pub extern "C" fn kefthrun_load(
 {
     if !buffers::is_whole(literals, ends, sets, kinds, state) {
         buffers::zero_state(state);
-        return results::pack(1, 0, 1);
+        return results::pack(results::FORMULA_REFUSED, 0, results::TABLE_TOO_SHORT);
     }
     load_whole(text, literals, ends, sets, kinds, state)
 }

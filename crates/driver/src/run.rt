@@ -72,7 +72,7 @@ pub extern "C" fn kefthrun_run(
         (runBytes (buffersOf (now (literals .entry)) (now (ends .entry)) (now (sets .entry)) (now (kinds .entry)) (now (state .entry))) (now (records .entry))) ⌝ }
 {
     if !buffers::is_whole(literals, ends, sets, kinds, state) {
-        return results::pack(2, 0, 1);
+        return results::pack(results::BAD, 0, results::TABLE_TOO_SHORT);
     }
     run_whole(records, literals, ends, sets, kinds, state)
 }

@@ -1,18 +1,22 @@
 -- Results: their fields, and that of a shown clause.
+--     case-is, first-is, second-is      the case, and values of 16 bits
+--     first-cut, second-cut             any values
+--     stretch-shown                     a shown clause from its place and its length
 use mathlib.Core.Path.{_≡_, refl}
 use mathlib.Core.Bool.{Bool, true, false, cond}
+use mathlib.Core.List.{[]}
 use mathlib.Core.Option.{Option, none, some}
-use Prim.Native.Nat.{ℕ, _-_, _<_}
+use Prim.Native.Nat.{ℕ, _+_, _-_, _*_, _/_, _%_, _<_}
 use native.Mathlib.Omega.{arith}
 use lib.ListN.{length}
 use Rattle.dqbf.specs.Refusal.{Refusal, refusal}
 use Rattle.dqbf.specs.Rules.{unknown, clauseAt}
-use Rattle.dqbf.specs.Questions.{clauseLength, noClause, askClause}
+use Rattle.dqbf.specs.Questions.{clauseLength, noClause, askClause, show}
 use Rattle.tables.specs.Tables.{Tables, entry, modelIn}
 use Rattle.tables.specs.Unusable.{unusable, unlessRefused}
 use Rattle.tables.specs.declared.State.{State}
-use Rattle.questions.specs.Answers.{lengthAnswer, shownStart}
-use Rattle.results.specs.Results.{packed, field, showResult}
+use Rattle.questions.specs.Answers.{lengthAnswer, shownStart, shownClause}
+use Rattle.results.specs.Results.{packed, field, showResult, stretchResult}
 
 pub case-is : (k a b : ℕ) → k < 65536 → field 0 (packed k a b) ≡ k
 unfolding field packed
@@ -26,14 +30,29 @@ pub second-is : (k a b : ℕ) → k < 65536 → b < 65536 → field 2 (packed k 
 unfolding field packed
 second-is k a b h i = omega arith
 
--- where a clause is unknown its start does not count
-pub show-start : (t : Tables) (s : State) (n : ℕ) → showResult (entry (t .ends) (n - 1)) (lengthAnswer t s n) ≡ showResult (shownStart t s n) (lengthAnswer t s n)
-unfolding lengthAnswer shownStart unlessRefused askClause showResult
-show-start t s n = go (unusable t s) (unknown (modelIn t s) n)
+-- a value of more than 16 bits is cut
+pub first-cut : (k a b : ℕ) → k < 65536 → field 1 (packed k a b) ≡ a % 65536
+unfolding field packed
+first-cut k a b h = go (a % 65536) (b % 65536) (omega arith) (omega arith)
+  where
+    go : (x y : ℕ) → x < 65536 → y < 65536 → (k + 65536 * x + 4294967296 * y) / 65536 % 65536 ≡ x
+    go x y i j = omega arith
+
+pub second-cut : (k a b : ℕ) → k < 65536 → field 2 (packed k a b) ≡ b % 65536
+unfolding field packed
+second-cut k a b h = go (a % 65536) (b % 65536) (omega arith) (omega arith)
+  where
+    go : (x y : ℕ) → x < 65536 → y < 65536 → (k + 65536 * x + 4294967296 * y) / 65536 / 65536 % 65536 ≡ y
+    go x y i j = omega arith
+
+-- where the clause before ends and the length of the clause make the shown stretch
+pub stretch-shown : (t : Tables) (s : State) (n : ℕ) → stretchResult (entry (t .ends) (n - 1)) (lengthAnswer t s n) ≡ showResult (shownStart t s n) (shownClause t s n)
+unfolding lengthAnswer shownStart shownClause unlessRefused askClause show showResult stretchResult
+stretch-shown t s n = go (unusable t s) (unknown (modelIn t s) n)
   where
     go : (o : Option Refusal) (k : Bool)
-        → showResult (entry (t .ends) (n - 1)) (unlessRefused o noClause (cond k (noClause (refusal 21)) (clauseLength (length (clauseAt (modelIn t s) n)))))
-        ≡ showResult (unlessRefused o (λ r. 0) (cond k 0 (entry (t .ends) (n - 1)))) (unlessRefused o noClause (cond k (noClause (refusal 21)) (clauseLength (length (clauseAt (modelIn t s) n)))))
+        → stretchResult (entry (t .ends) (n - 1)) (unlessRefused o noClause (cond k (noClause (refusal 21)) (clauseLength (length (clauseAt (modelIn t s) n)))))
+        ≡ showResult (unlessRefused o (λ r. 0) (cond k 0 (entry (t .ends) (n - 1)))) (unlessRefused o (λ r. []) (cond k [] (clauseAt (modelIn t s) n)))
     go none true = refl
     go none false = refl
     go (some r) k = refl

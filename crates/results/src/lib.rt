@@ -1,11 +1,28 @@
-// Results: one number of four 16-bit fields.
+// Results: one number of four 16-bit fields. The case is never 0.
 ghost use mathlib.Core.Path.{_≡_};
-ghost use Rattle.results.specs.Results.{packed, loadResult, runResult, clauseResult, showResult, variableResult};
+ghost use Rattle.results.specs.Results.{packed, loadResult, runResult, clauseResult, stretchResult, variableResult};
 ghost use Rattle.questions.specs.Answers.{lengthTold, variableTold};
 use dqdimacs::LoadAnswer;
 use questions::LengthAnswer;
 use questions::VariableAnswer;
 use steps::RunAnswer;
+
+// The cases. Of a load
+pub const ACCEPTED: u8 = 1;
+
+pub const FORMULA_REFUSED: u8 = 4;
+// of a run
+pub const REFUTED: u8 = 1;
+
+pub const OPEN: u8 = 2;
+
+pub const BAD: u8 = 3;
+// of a question
+pub const ANSWERED: u8 = 1;
+
+pub const REFUSED: u8 = 2;
+// The number of refusal where a buffer has too few bytes.
+pub const TABLE_TOO_SHORT: u32 = 1;
 
 // The case and two values; the highest field is 0.
 pub fn pack(case: u8, a: u32, b: u32) -> u64
@@ -18,8 +35,8 @@ pub fn of_load(answer: LoadAnswer) -> u64
     ensures { λ r. ⌜ r ≡ loadResult answer ⌝ }
 {
     match answer {
-        LoadAnswer::Accepted => pack(0, 0, 0),
-        LoadAnswer::Refused(line, number) => pack(1, line, number),
+        LoadAnswer::Accepted => pack(ACCEPTED, 0, 0),
+        LoadAnswer::Refused(line, number) => pack(FORMULA_REFUSED, line, number),
     }
 }
 
@@ -27,9 +44,9 @@ pub fn of_run(answer: RunAnswer) -> u64
     ensures { λ r. ⌜ r ≡ runResult answer ⌝ }
 {
     match answer {
-        RunAnswer::Refuted(steps, clause) => pack(0, steps.0, clause.0),
-        RunAnswer::Open(steps) => pack(1, steps.0, 0),
-        RunAnswer::Bad(step, number) => pack(2, step.0, number),
+        RunAnswer::Refuted(steps, clause) => pack(REFUTED, steps.0, clause.0),
+        RunAnswer::Open(steps) => pack(OPEN, steps.0, 0),
+        RunAnswer::Bad(step, number) => pack(BAD, step.0, number),
     }
 }
 
@@ -37,18 +54,18 @@ pub fn of_clause(answer: LengthAnswer) -> u64
     ensures { λ r. ⌜ r ≡ clauseResult (lengthTold answer) ⌝ }
 {
     match answer {
-        LengthAnswer::Length(length) => pack(0, length as u32, 0),
-        LengthAnswer::Refused(number) => pack(1, number as u32, 0),
+        LengthAnswer::Length(length) => pack(ANSWERED, length as u32, 0),
+        LengthAnswer::Refused(number) => pack(REFUSED, number as u32, 0),
     }
 }
 
-// With the place where the clause starts.
+// Place and length of a shown clause: the empty stretch at the start where the question is refused.
 pub fn of_show(start: u16, answer: LengthAnswer) -> u64
-    ensures { λ r. ⌜ r ≡ showResult start (lengthTold answer) ⌝ }
+    ensures { λ r. ⌜ r ≡ stretchResult start (lengthTold answer) ⌝ }
 {
     match answer {
-        LengthAnswer::Length(length) => pack(0, start as u32, length as u32),
-        LengthAnswer::Refused(number) => pack(1, number as u32, 0),
+        LengthAnswer::Length(length) => pack(ANSWERED, start as u32, length as u32),
+        LengthAnswer::Refused(_) => pack(ANSWERED, 0, 0),
     }
 }
 
@@ -56,7 +73,11 @@ pub fn of_variable(answer: VariableAnswer) -> u64
     ensures { λ r. ⌜ r ≡ variableResult (variableTold answer) ⌝ }
 {
     match answer {
-        VariableAnswer::Known { kind, universals } => pack(0, kind as u32, universals as u32),
-        VariableAnswer::Refused(number) => pack(1, number as u32, 0),
+        VariableAnswer::Known { kind, universals } => pack(
+            ANSWERED,
+            kind as u32,
+            universals as u32,
+        ),
+        VariableAnswer::Refused(number) => pack(REFUSED, number as u32, 0),
     }
 }

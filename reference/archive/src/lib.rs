@@ -4,6 +4,8 @@
 use differential::library::{Lent, Library, Shared};
 
 extern "C" {
+    fn kefthrun_interface() -> u32;
+
     fn kefthrun_load(
         text: *const u8,
         text_length: usize,
@@ -129,6 +131,14 @@ macro_rules! read {
 /// The library as the archive has it.
 #[derive(Clone, Copy)]
 pub struct Archive;
+
+impl Archive {
+    /// The archive, if its interface is the one that this crate declares.
+    pub fn of_this_interface() -> Option<Archive> {
+        // Safe: no argument, and it only answers a number.
+        (unsafe { kefthrun_interface() } == lean::INTERFACE).then_some(Archive)
+    }
+}
 
 impl Library for Archive {
     fn load(&mut self, text: &[u8], lent: Lent) -> u64 {

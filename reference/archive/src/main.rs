@@ -2,6 +2,14 @@
 
 #![forbid(unsafe_code)]
 
-fn main() -> std::process::ExitCode {
-    differential::command::main(archive::Archive)
+use std::process::ExitCode;
+
+fn main() -> ExitCode {
+    match archive::Archive::of_this_interface() {
+        Some(archive) => differential::command::main(archive),
+        None => {
+            eprintln!("the archive has another interface");
+            ExitCode::from(2)
+        }
+    }
 }

@@ -26,8 +26,12 @@ enum Fault {
     MoreSteps,
     /// The highest field is not 0.
     HighField,
+    /// An accepted load answers case 0.
+    ClearedCase,
     /// A show starts one entry early.
     EarlyShow,
+    /// A show of an unknown clause is refused.
+    ShowRefuses,
     /// A question narrows its number to 16 bits.
     Narrows,
     /// Set words are counted without their highest place of eight.
@@ -36,7 +40,7 @@ enum Fault {
     TrustsState,
 }
 
-const FAULTS: [Fault; 17] = [
+const FAULTS: [Fault; 19] = [
     Fault::WritesBehind(0),
     Fault::WritesBehind(1),
     Fault::WritesBehind(2),
@@ -50,7 +54,9 @@ const FAULTS: [Fault; 17] = [
     Fault::EarlierStep,
     Fault::MoreSteps,
     Fault::HighField,
+    Fault::ClearedCase,
     Fault::EarlyShow,
+    Fault::ShowRefuses,
     Fault::Narrows,
     Fault::Miscounts,
     Fault::TrustsState,
@@ -85,13 +91,15 @@ impl Library for Faulty {
         let state = lent[4].to_vec();
         let word = Lean.load(text, reborrow(&mut lent));
         self.behind(&mut lent);
-        let short = word == 1 | 1 << 32;
+        let refused = word & 0xFFFF == 4;
+        let short = word == 4 | 1 << 32;
         match self.0 {
             Fault::KeepsState if short => lent[4].copy_from_slice(&state),
             Fault::ClearsShort if short => lent[3].fill(0),
-            Fault::LeavesALiteral if word != 0 && !short => lent[0][0] = 1,
-            Fault::NextLine if word != 0 && !short => return word + (1 << 16),
-            Fault::HighField if word == 0 => return 1 << 48,
+            Fault::LeavesALiteral if refused && !short => lent[0][0] = 1,
+            Fault::NextLine if refused && !short => return word + (1 << 16),
+            Fault::HighField if !refused => return word | 1 << 48,
+            Fault::ClearedCase if !refused => return word & !0xFFFF,
             _ => (),
         }
         word
@@ -105,9 +113,9 @@ impl Library for Faulty {
         self.behind(&mut lent);
         let steps = word >> 16 & 0xFFFF;
         match (self.0, word & 0xFFFF) {
-            (Fault::ChangesAfterRefusal, 2) if !lent[3].is_empty() => lent[3][0] = 0,
-            (Fault::EarlierStep, 2) if steps > 1 => return word - (1 << 16),
-            (Fault::MoreSteps, 0) => return word + (1 << 16),
+            (Fault::ChangesAfterRefusal, 3) if !lent[3].is_empty() => lent[3][0] = 0,
+            (Fault::EarlierStep, 3) if steps > 1 => return word - (1 << 16),
+            (Fault::MoreSteps, 1) => return word + (1 << 16),
             _ => (),
         }
         word
@@ -115,8 +123,11 @@ impl Library for Faulty {
 
     fn show(&mut self, lent: Shared, clause: u32) -> u64 {
         let word = Lean.show(lent, self.number(clause));
-        let early = self.0 == Fault::EarlyShow && word & 0xFFFF == 0 && word >> 16 & 0xFFFF > 0;
-        word - if early { 1 << 16 } else { 0 }
+        match (self.0, Lean.clause(lent, clause) & 0xFFFF) {
+            (Fault::EarlyShow, 1) if word >> 16 & 0xFFFF > 0 => word - (1 << 16),
+            (Fault::ShowRefuses, 2) => Lean.clause(lent, clause),
+            _ => word,
+        }
     }
 
     fn clause(&mut self, lent: Shared, clause: u32) -> u64 {
@@ -125,7 +136,7 @@ impl Library for Faulty {
 
     fn variable(&mut self, lent: Shared, variable: u32) -> u64 {
         let word = Lean.variable(lent, self.number(variable));
-        let many = word & 0xFFFF == 0 && word >> 32 >= 8;
+        let many = word & 0xFFFF == 1 && word >> 32 >= 8;
         word - if self.0 == Fault::Miscounts && many {
             1 << 32
         } else {

@@ -12,15 +12,16 @@ use differential::oracle;
 use differential::program::Program;
 use differential::scenario::Call;
 
-/// Call, tag and, in a refusal, its number.
+/// Call, tag and, in a refusal, its number; of a show, how many of its two values
+/// are not 0.
 fn outcome(call: &Call, word: u64) -> (&'static str, u16, u16) {
     let [tag, first, second, _] = fields(word);
     match call {
         Call::Load(_) => ("load", tag, second),
-        Call::Run(_) => ("run", tag, if tag == 2 { second } else { 0 }),
-        Call::Show(_) => ("show", tag, if tag == 1 { first } else { 0 }),
-        Call::Clause(_) => ("clause", tag, if tag == 1 { first } else { 0 }),
-        Call::Variable(_) => ("variable", tag, if tag == 1 { first } else { 0 }),
+        Call::Run(_) => ("run", tag, if tag == 3 { second } else { 0 }),
+        Call::Show(_) => ("show", tag, u16::from(first > 0) + u16::from(second > 0)),
+        Call::Clause(_) => ("clause", tag, if tag == 2 { first } else { 0 }),
+        Call::Variable(_) => ("variable", tag, if tag == 2 { first } else { 0 }),
     }
 }
 
@@ -35,13 +36,14 @@ fn scenarios_reach_every_answer() {
             found.insert(outcome(call, oracle::answer(&mut buffers, call)));
         }
     }
-    let mut wanted = BTreeSet::from([("load", 0, 0), ("run", 0, 0), ("run", 1, 0)]);
-    wanted.extend([1, 10, 11, 12, 13, 14].map(|number| ("load", 1, number)));
+    let mut wanted = BTreeSet::from([("load", 1, 0), ("run", 1, 0), ("run", 2, 0)]);
+    wanted.extend([1, 10, 11, 12, 13, 14].map(|number| ("load", 4, number)));
     let run = [1, 2, 11, 20, 21, 22, 23, 24, 25, 26, 27, 28, 29];
-    wanted.extend(run.map(|number| ("run", 2, number)));
-    for (call, unknown) in [("show", 21), ("clause", 21), ("variable", 22)] {
-        wanted.insert((call, 0, 0));
-        wanted.extend([1, 2, unknown].map(|number| (call, 1, number)));
+    wanted.extend(run.map(|number| ("run", 3, number)));
+    wanted.extend([0, 1, 2].map(|values| ("show", 1, values)));
+    for (call, unknown) in [("clause", 21), ("variable", 22)] {
+        wanted.insert((call, 1, 0));
+        wanted.extend([1, 2, unknown].map(|number| (call, 2, number)));
     }
     assert_eq!(found, wanted);
 }

@@ -1,16 +1,16 @@
 //! The driver's five calls over byte buffers, made to be fast: flat arrays, one
 //! pass over the tables, no allocation. It shares no code with `checker`.
 //!
-//! A call answers a word of four 16-bit fields, the lowest first: a tag and its
-//! values.
+//! A call answers a word of four 16-bit fields, the lowest first: a tag, which is
+//! never 0, and its values.
 //!
-//! | call | tag 0 | tag 1 | tag 2 |
-//! |---|---|---|---|
-//! | load | accepted | refused: line, number | |
-//! | run | refuted: steps, clause | open: steps | bad: step, number |
-//! | show | place and length in entries | refused: number | |
-//! | clause | length | refused: number | |
-//! | variable | kind, universals | refused: number | |
+//! | call | tag 1 | another tag |
+//! |---|---|---|
+//! | load | accepted | 4, refused: line, number |
+//! | run | refuted: steps, clause | 2, open: steps; 3, bad: step, number |
+//! | show | place and length in entries; 0 and 0 where a question is refused | |
+//! | clause | length | 2, refused: number |
+//! | variable | kind, universals | 2, refused: number |
 
 #![forbid(unsafe_code)]
 
@@ -28,6 +28,9 @@ pub type Lent<'a> = [&'a mut [u8]; 5];
 /// The buffers of a call that only reads.
 pub type Shared<'a> = [&'a [u8]; 5];
 
+/// The number of the interface: KEFTHRUN_INTERFACE of include/kefthrun.h.
+pub const INTERFACE: u32 = 1;
+
 /// The word of a tag and its values.
 fn word(tag: u64, first: u64, second: u64) -> u64 {
     tag | first << 16 | second << 32
@@ -39,7 +42,7 @@ pub fn load(text: &[u8], mut lent: Lent) -> u64 {
         if let Some(state) = lent[4].get_mut(..SIZES[4]) {
             state.fill(0);
         }
-        return word(1, 0, 1);
+        return word(4, 0, 1);
     }
     let mut tables = Tables::zero();
     let outcome = text::read(text, &mut tables);
@@ -48,8 +51,8 @@ pub fn load(text: &[u8], mut lent: Lent) -> u64 {
     }
     tables.write(&mut lent);
     match outcome {
-        Ok(()) => word(0, 0, 0),
-        Err((line, number)) => word(1, line, number),
+        Ok(()) => word(1, 0, 0),
+        Err((line, number)) => word(4, line, number),
     }
 }
 
@@ -57,31 +60,31 @@ pub fn load(text: &[u8], mut lent: Lent) -> u64 {
 pub fn run(records: &[u8], mut lent: Lent) -> u64 {
     let mut tables = Tables::zero();
     if let Err(number) = tables.read(&shared(&lent)) {
-        return word(2, 0, number);
+        return word(3, 0, number);
     }
     let before = tables.counts;
     let outcome = steps::run(records, &mut tables);
     tables.write_added(&before, &mut lent);
     match outcome {
-        Err((step, number)) => word(2, step, number),
-        Ok(()) if tables.counts.empty == 0 => word(1, tables.counts.steps as u64, 0),
-        Ok(()) => word(0, tables.counts.steps as u64, tables.counts.empty as u64),
+        Err((step, number)) => word(3, step, number),
+        Ok(()) if tables.counts.empty == 0 => word(2, tables.counts.steps as u64, 0),
+        Ok(()) => word(1, tables.counts.steps as u64, tables.counts.empty as u64),
     }
 }
 
 /// The stretch of a clause, in entries of the literals.
 pub fn show(lent: Shared, clause: u32) -> u64 {
     match stretch(lent, clause) {
-        Ok((start, end)) => word(0, start as u64, (end - start) as u64),
-        Err(number) => word(1, number, 0),
+        Ok((start, end)) => word(1, start as u64, (end - start) as u64),
+        Err(_) => word(1, 0, 0),
     }
 }
 
 /// The length of a clause.
 pub fn clause(lent: Shared, clause: u32) -> u64 {
     match stretch(lent, clause) {
-        Ok((start, end)) => word(0, (end - start) as u64, 0),
-        Err(number) => word(1, number, 0),
+        Ok((start, end)) => word(1, (end - start) as u64, 0),
+        Err(number) => word(2, number, 0),
     }
 }
 
@@ -89,14 +92,14 @@ pub fn clause(lent: Shared, clause: u32) -> u64 {
 pub fn variable(lent: Shared, variable: u32) -> u64 {
     let mut tables = Tables::zero();
     if let Err(number) = tables.read(&lent) {
-        return word(1, number, 0);
+        return word(2, number, 0);
     }
     let index = variable.wrapping_sub(1) as usize;
     if index >= tables.counts.variables {
-        return word(1, 22, 0);
+        return word(2, 22, 0);
     }
     let universals = tables.sets[index].count_ones();
-    word(0, tables.kinds[index].into(), universals.into())
+    word(1, tables.kinds[index].into(), universals.into())
 }
 
 fn stretch(lent: Shared, clause: u32) -> Result<(usize, usize), u64> {

@@ -67,6 +67,12 @@ macro_rules! reading {
     };
 }
 
+/// The number of the interface.
+#[no_mangle]
+pub extern "C" fn kefthrun_interface() -> u32 {
+    lean::INTERFACE
+}
+
 writing!(kefthrun_load, lean::load);
 writing!(kefthrun_run, lean::run);
 reading!(kefthrun_show, lean::show);

@@ -26,9 +26,9 @@ use Rattle.codec.specs.State as Codec
 use Rattle.codec.proofs.Laws.Bytes.{entries-length}
 use Rattle.codec.proofs.Laws.Turns.{literals-length}
 use Rattle.buffers.specs.Buffers.{Buffers, buffersOf, stateWhole, whole, tablesIn, stateIn, written}
-use Rattle.results.specs.Results.{packed, loadResult, runResult, clauseResult, showResult, variableResult}
+use Rattle.results.specs.Results.{packed, loadResult, runResult, clauseResult, showResult, stretchResult, variableResult}
 use Rattle.buffers.proofs.Laws.{Sizes, whole-sizes}
-use Rattle.results.proofs.Laws.{show-start}
+use Rattle.results.proofs.Laws.{stretch-shown}
 use Rattle.driver.specs.Calls.{After, loaded, loadShort, loadBytes, ran, runShort, runBytes, showBytes, clauseBytes, variableBytes}
 
 not-true : (b : Bool) → not b ≡ true → b ≡ false
@@ -46,7 +46,7 @@ sizes b {a} told h = whole-sizes b (sym told ∙ not-false a h)
 -- ---- a run
 
 module _ (b : Buffers) (records : List ℕ) {a : Bool} (told : a ≡ whole b) where
-  pub run-short : {r : ℕ} → not a ≡ true → r ≡ packed 2 0 1 → _≡_ {A = After} (record { buffers = b; result = r }) (runBytes b records)
+  pub run-short : {r : ℕ} → not a ≡ true → r ≡ packed 3 0 1 → _≡_ {A = After} (record { buffers = b; result = r }) (runBytes b records)
   unfolding runBytes runShort runResult
   run-short h e = rw (← told, not-true a h, e)
 
@@ -68,7 +68,7 @@ module _ (b : Buffers) (records : List ℕ) where
 -- ---- a load
 
 module _ (b : Buffers) (text : List ℕ) {a : Bool} (told : a ≡ whole b) where
-  pub load-short : {s : List ℕ} {r : ℕ} → not a ≡ true → s ≡ cond (leb 16 (length (b .state))) (over (replicate 16 0) (b .state)) (b .state) → r ≡ packed 1 0 1
+  pub load-short : {s : List ℕ} {r : ℕ} → not a ≡ true → s ≡ cond (leb 16 (length (b .state))) (over (replicate 16 0) (b .state)) (b .state) → r ≡ packed 4 0 1
       → _≡_ {A = After} (record { buffers = buffersOf (b .literals) (b .ends) (b .sets) (b .kinds) s; result = r }) (loadBytes b text)
   unfolding loadBytes loadShort loadResult stateWhole
   load-short h z e = rw (← told, not-true a h, e, z)
@@ -113,18 +113,18 @@ module _ (b : Buffers) (text : List ℕ) (kinds-room : 512 ≤ length (b .kinds)
 -- ---- calls that write nothing
 
 module _ (b : Buffers) (n : ℕ) {a : Bool} (told : a ≡ whole b) where
-  module _ {r : ℕ} (h : not a ≡ true) (e : r ≡ packed 1 1 0) where
+  module _ {r : ℕ} (h : not a ≡ true) (e : r ≡ packed 2 1 0) where
     pub clause-short : r ≡ clauseBytes b n
     unfolding clauseBytes clauseResult
     clause-short = rw (← told, not-true a h) e
 
-    pub show-short : r ≡ showBytes b n
-    unfolding showBytes showResult
-    show-short = rw (← told, not-true a h) e
-
     pub variable-short : r ≡ variableBytes b n
     unfolding variableBytes variableResult
     variable-short = rw (← told, not-true a h) e
+
+  pub show-short : {r : ℕ} → not a ≡ true → r ≡ packed 1 0 0 → r ≡ showBytes b n
+  unfolding showBytes showResult
+  show-short h e = rw (← told, not-true a h) e
 
   module _ (h : not a ≡ false) {l : List ℤ} {e w : List ℕ} {s : State} (p : l ≡ literalsIn literalLimit (b .literals)) (q : e ≡ entries 2 clauseLimit (b .ends))
       (u : w ≡ entries 8 variableLimit (b .sets)) (v : s ≡ Codec.stateIn (b .state)) where
@@ -141,6 +141,6 @@ module _ (b : Buffers) (n : ℕ) {a : Bool} (told : a ≡ whole b) where
     unfolding variableBytes
     variable-told i g = rw (← told, not-false a h) (g ∙ ap variableResult (held-answer variableAnswer i))
 
-    pub show-told : {x : ClauseAnswer} {start r : ℕ} → x ≡ lengthAnswer (tablesOf l e w (b .kinds)) s n → start ≡ entry e (n - 1) → r ≡ showResult start x → r ≡ showBytes b n
+    pub show-told : {x : ClauseAnswer} {start r : ℕ} → x ≡ lengthAnswer (tablesOf l e w (b .kinds)) s n → start ≡ entry e (n - 1) → r ≡ stretchResult start x → r ≡ showBytes b n
     unfolding showBytes tablesIn
-    show-told i k g = rw (← told, not-false a h) (g ∙ rw (held-answer lengthAnswer i, k, q) (show-start (tablesIn b) (stateIn b) n))
+    show-told i k g = rw (← told, not-false a h) (g ∙ rw (held-answer lengthAnswer i, k, q) (stretch-shown (tablesIn b) (stateIn b) n))

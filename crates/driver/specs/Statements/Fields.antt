@@ -1,4 +1,4 @@
--- The fields of a result are the case and the values of the answer, and nothing is cut off: each value fits its 16 bits.
+-- The fields of a result are the case and the values of the answer, and nothing is cut off: each value fits its 16 bits. The case is never 0.
 use mathlib.Core.Path.{_≡_}
 use mathlib.Core.Bool.{true}
 use mathlib.Core.List.{List, [], _∷_}
@@ -19,21 +19,21 @@ unfoldable pub fields : ℕ → List ℕ
 fields r = field 0 r ∷ field 1 r ∷ field 2 r ∷ []
 
 unfoldable pub loadFields : LoadAnswer → List ℕ
-loadFields Load.Accepted = 0 ∷ 0 ∷ 0 ∷ []
-loadFields (Load.Refused line number) = 1 ∷ line ∷ number ∷ []
+loadFields Load.Accepted = 1 ∷ 0 ∷ 0 ∷ []
+loadFields (Load.Refused line number) = 4 ∷ line ∷ number ∷ []
 
 unfoldable pub runFields : RunAnswer → List ℕ
-runFields (Run.Refuted steps clause) = 0 ∷ steps .0 ∷ clause .0 ∷ []
-runFields (Run.Open steps) = 1 ∷ steps .0 ∷ 0 ∷ []
-runFields (Run.Bad step number) = 2 ∷ step .0 ∷ number ∷ []
+runFields (Run.Refuted steps clause) = 1 ∷ steps .0 ∷ clause .0 ∷ []
+runFields (Run.Open steps) = 2 ∷ steps .0 ∷ 0 ∷ []
+runFields (Run.Bad step number) = 3 ∷ step .0 ∷ number ∷ []
 
 unfoldable pub clauseFields : ClauseAnswer → List ℕ
-clauseFields (clauseLength n) = 0 ∷ n ∷ 0 ∷ []
-clauseFields (noClause r) = 1 ∷ r .number ∷ 0 ∷ []
+clauseFields (clauseLength n) = 1 ∷ n ∷ 0 ∷ []
+clauseFields (noClause r) = 2 ∷ r .number ∷ 0 ∷ []
 
 unfoldable pub variableFields : VariableAnswer → List ℕ
-variableFields (variable kind universals) = 0 ∷ kind ∷ universals ∷ []
-variableFields (noVariable r) = 1 ∷ r .number ∷ 0 ∷ []
+variableFields (variable kind universals) = 1 ∷ kind ∷ universals ∷ []
+variableFields (noVariable r) = 2 ∷ r .number ∷ 0 ∷ []
 
 abbrev pub LoadTells : Type 0
 LoadTells = (b : Buffers) (text : List ℕ) → whole b ≡ true → fields (loadBytes b text .result) ≡ loadFields (loadOf (tablesIn b) text .answer)

@@ -1,7 +1,7 @@
 -- DEMAND 3 for the driver's buffers (document 01, "The refutation statement": "The same is claimed of a list of the driver's calls over its buffers").
 --
--- Whatever the buffers hold, if the first field of a load's result is 0, the text is a formula's; and for every list of the driver's calls after it, each getting
--- the buffers as the load or the call before left them, if the first field of a run's result is 0, no family makes the formula true. `loadBytes` and `runBytes`
+-- Whatever the buffers hold, if the first field of a load's result is 1, the text is a formula's; and for every list of the driver's calls after it, each getting
+-- the buffers as the load or the call before left them, if the first field of a run's result is 1, no family makes the formula true. `loadBytes` and `runBytes`
 -- (specs/Calls.antt) are what the contracts of `kefthrun_load` and `kefthrun_run` promise. Questions and shown clauses write nothing and may stand between.
 use mathlib.Core.Path.{_≡_}
 use mathlib.Core.List.{List, [], _∷_}
@@ -31,6 +31,6 @@ runResults b (otherCall ∷ calls) = runResults b calls
 
 abbrev pub Refutation : Type 0
 Refutation =
-    (b : Buffers) (text : List ℕ) → field 0 (loadBytes b text .result) ≡ 0
+    (b : Buffers) (text : List ℕ) → field 0 (loadBytes b text .result) ≡ 1
     → (φ : Formula) × (load text ≡ accepted φ)
-    × ((calls : List Call) (r : ℕ) → r ∈ runResults (loadBytes b text .buffers) calls → field 0 r ≡ 0 → Refuted φ)
+    × ((calls : List Call) (r : ℕ) → r ∈ runResults (loadBytes b text .buffers) calls → field 0 r ≡ 1 → Refuted φ)

@@ -1,7 +1,7 @@
 -- `results::of_show` meets its contract.
 use borrow.Author.Needs.{needs}
 use Rattle.questions.specs.Answers.{lengthTold}
-use Rattle.results.specs.Results.{showResult}
+use Rattle.results.specs.Results.{stretchResult}
 use Rattle.results.proofs.of_show.Statement.{statement}
 use Rattle.results.proofs.of_show.Tie as tie
 
@@ -14,32 +14,21 @@ cast-pack c = search needs
 pack-requires : tie.Need-pack-requires
 pack-requires c κs = search needs
 
-enum-known-answer-2 : tie.Need-enum-known-answer-2
-enum-known-answer-2 c = search needs
-
-cast-pack-2 : tie.Need-cast-pack-2
-cast-pack-2 c = search needs
+enum-told : tie.Need-enum-told
+enum-told c = search needs
 
 pack-requires-2 : tie.Need-pack-requires-2
 pack-requires-2 c κs = search needs
 
 returns : tie.Need-returns
-unfolding showResult lengthTold
+unfolding stretchResult lengthTold
 returns c = rw (c .before .before .answer .given .1) (c .pack .ensures)
 
 returns-2 : tie.Need-returns-2
-unfolding showResult lengthTold
-returns-2 c = rw (c .before .before .answer2 .given .1) (c .pack2 .ensures)
+unfolding stretchResult lengthTold
+returns-2 c = rw (c .before .enum-told .given .1) (c .pack2 .ensures)
 
 pub of-show-spec : {M : Type 1} → statement M
 of-show-spec =
     tie.close
-    (tie.spec
-    enum-known-answer
-    cast-pack
-    pack-requires
-    enum-known-answer-2
-    cast-pack-2
-    pack-requires-2
-    returns
-    returns-2)
+    (tie.spec enum-known-answer cast-pack pack-requires enum-told pack-requires-2 returns returns-2)
