@@ -6,11 +6,10 @@
 # than those that are built here.
 set -eu
 cd "$(dirname "$0")/.."
+[ -n "${KEFTHRUN_ARCHIVE:-}" ] || tests/fresh.sh target/staticlib/libdriver.a
+[ -n "${KEFTHRUN_PROGRAM:-}" ] || tests/fresh.sh target/bin/kefthrun
 export KEFTHRUN_ARCHIVE="${KEFTHRUN_ARCHIVE:-$PWD/target/staticlib}"
 program=${KEFTHRUN_PROGRAM:-$PWD/target/bin/kefthrun}
-for built in "$KEFTHRUN_ARCHIVE/libdriver.a" "$program"; do
-    [ -e "$built" ] || { echo "$built is not built" >&2; exit 2; }
-done
 cd reference
 cargo build --offline --quiet --release -p archive
 exec target/release/archive --seed 1 --count 5000 --program "$program" --failures target/failures "$@"

@@ -33,7 +33,7 @@ fn options() -> Option<Options> {
         let value = arguments.next()?;
         match name.as_str() {
             "--seed" => options.seed = value.parse().ok()?,
-            "--count" => options.count = Some(value.parse().ok()?),
+            "--count" => options.count = Some(value.parse().ok().filter(|&count| count > 0)?),
             "--only" => options.only = value,
             "--out" => options.out = Some(value.into()),
             "--dir" => options.dir = Some(value.into()),

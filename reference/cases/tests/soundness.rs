@@ -1,62 +1,11 @@
-//! Document 01, "The refutation statement": nothing that is true is ever
-//! refuted, and no accepted step makes a true formula false.
+//! Document 01, "The refutation statement": no accepted step makes a true formula
+//! false. (That nothing true is refuted: `differential/tests/soundness.rs`.)
 
-use cases::formulas::{self, random_formula, Size};
-use cases::prover::{records_of, trimmed, Prover};
+use cases::formulas::{self, random_formula};
+use cases::prover::Prover;
 use cases::random::Random;
 use checker::state::{Kind, State};
 use decide::{decide, meaning, BITS};
-
-/// How the formulas of a size came out.
-#[derive(Debug, Default)]
-struct Tally {
-    decided_true: usize,
-    decided_false: usize,
-    refuted: usize,
-    refuted_with_forks: usize,
-}
-
-fn tally(size: Size, seed: u64, count: u64) -> Tally {
-    let mut tally = Tally::default();
-    for index in 0..count {
-        let random = &mut Random::for_case(seed, index);
-        let text = random_formula(random, size).loose(random);
-        let Some(is_true) = decide(&text) else {
-            continue;
-        };
-        let start = State::load(&text).unwrap();
-        let mut prover = Prover::new(start.clone(), random);
-        prover.forks_first = prover.random.chance(70);
-        prover.universal_pivots = prover.random.chance(30);
-        prover.saturate(200);
-        prover.wander(40);
-        let verdict = checker::check(&text, &records_of(&prover.steps)).to_string();
-        let refuted = verdict.starts_with("refuted");
-        let shown = String::from_utf8_lossy(&text);
-        assert!(!(is_true && refuted), "true and refuted:\n{shown}");
-        tally.decided_true += usize::from(is_true);
-        tally.decided_false += usize::from(!is_true);
-        tally.refuted += usize::from(refuted);
-        let short = trimmed(&start, &prover.steps).unwrap_or_default();
-        tally.refuted_with_forks += usize::from(records_of(&short).chunks(16).any(|r| r[0] == 3));
-    }
-    tally
-}
-
-#[test]
-fn nothing_true_is_refuted() {
-    let sizes = [formulas::TINY, formulas::SMALL, formulas::FORKED];
-    let tallies = sizes.map(|size| tally(size, 11, 1_200));
-    let sum = |part: fn(&Tally) -> usize| tallies.iter().map(part).sum::<usize>();
-    assert!(sum(|t| t.decided_true) > 600, "{tallies:?}");
-    assert!(sum(|t| t.decided_false) > 1_500, "{tallies:?}");
-    // Most false formulas of these sizes are within reach of the prover.
-    assert!(
-        sum(|t| t.refuted) * 10 > sum(|t| t.decided_false) * 9,
-        "{tallies:?}"
-    );
-    assert!(sum(|t| t.refuted_with_forks) > 30, "{tallies:?}");
-}
 
 /// The formula of a state with all its derived clauses; fork variables are
 /// existentials with their sets.

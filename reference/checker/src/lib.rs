@@ -13,6 +13,7 @@ pub mod clause;
 pub mod driver;
 pub mod formula;
 pub mod limits;
+pub mod listed;
 pub mod records;
 pub mod refusal;
 pub mod rules;

@@ -1,5 +1,6 @@
 //! Document 01, "The line printed": `check DIR` reads `formula.dq` and
-//! `steps.bin` in DIR and prints the one line.
+//! `steps.bin` in DIR and prints the one line; `check --listed DIR` prints each
+//! clause and each variable behind it.
 
 #![forbid(unsafe_code)]
 
@@ -13,13 +14,21 @@ fn bytes_of(directory: &Path, name: &str) -> Vec<u8> {
 
 fn main() -> ExitCode {
     let arguments: Vec<_> = std::env::args_os().skip(1).collect();
-    let [directory] = arguments.as_slice() else {
-        eprintln!("usage: check DIR");
-        return ExitCode::from(2);
+    let (all, directory) = match arguments.as_slice() {
+        [directory] => (false, directory),
+        [option, directory] if option == "--listed" => (true, directory),
+        _ => {
+            eprintln!("usage: check [--listed] DIR");
+            return ExitCode::from(2);
+        }
     };
     let directory = Path::new(directory);
     let text = bytes_of(directory, "formula.dq");
     let records = bytes_of(directory, "steps.bin");
-    println!("{}", checker::check(&text, &records));
+    if all {
+        print!("{}", checker::listed::listed(&text, &records));
+    } else {
+        println!("{}", checker::check(&text, &records));
+    }
     ExitCode::SUCCESS
 }

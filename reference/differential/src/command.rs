@@ -31,7 +31,12 @@ struct Options {
     replay: Option<PathBuf>,
 }
 
-fn options() -> Option<Options> {
+/// A number that is not 0: with no scenario or no job nothing would be compared.
+fn some(value: &str) -> Option<u64> {
+    value.parse().ok().filter(|&number| number > 0)
+}
+
+fn options(mut arguments: impl Iterator<Item = String>) -> Option<Options> {
     let mut options = Options {
         seed: 1,
         first: 0,
@@ -41,14 +46,13 @@ fn options() -> Option<Options> {
         failures: "failures".into(),
         replay: None,
     };
-    let mut arguments = std::env::args().skip(1);
     while let Some(name) = arguments.next() {
         let value = arguments.next()?;
         match name.as_str() {
             "--seed" => options.seed = value.parse().ok()?,
             "--first" => options.first = value.parse().ok()?,
-            "--count" => options.count = value.parse().ok()?,
-            "--jobs" => options.jobs = value.parse().ok()?,
+            "--count" => options.count = some(&value)?,
+            "--jobs" => options.jobs = some(&value)?,
             "--program" => options.program = Some(value.into()),
             "--failures" => options.failures = value.into(),
             "--replay" => options.replay = Some(value.into()),
@@ -60,7 +64,7 @@ fn options() -> Option<Options> {
 
 /// Compares as the arguments say; the exit code tells whether all agree.
 pub fn main<L: Library + Send + Copy>(library: L) -> ExitCode {
-    let Some(options) = options() else {
+    let Some(options) = options(std::env::args().skip(1)) else {
         eprintln!("{USAGE}");
         return ExitCode::from(2);
     };
@@ -195,4 +199,25 @@ fn replay<L: Library>(file: &Path, mut library: L) -> io::Result<usize> {
         ),
     }
     Ok(found.is_some().into())
+}
+
+#[cfg(test)]
+mod tests {
+    use super::*;
+
+    #[test]
+    fn a_comparison_of_nothing_is_refused() {
+        let taken = |line: &str| options(line.split(' ').map(String::from)).is_some();
+        assert!(taken("--count 1 --jobs 2 --seed 0 --first 0"));
+        for line in [
+            "--count 0",
+            "--jobs 0",
+            "--count -1",
+            "--jobs",
+            "--count 1 --jobs 0",
+            "--job 1",
+        ] {
+            assert!(!taken(line), "{line}");
+        }
+    }
 }

@@ -5,9 +5,11 @@
 
 pub mod command;
 pub mod compare;
+pub mod fuzzed;
 pub mod generate;
 pub mod guarded;
 pub mod library;
 pub mod oracle;
 pub mod program;
 pub mod scenario;
+pub mod soundness;

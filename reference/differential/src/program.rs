@@ -21,26 +21,24 @@ impl Program {
         })
     }
 
-    /// What the program writes for a case.
-    fn line(&self, case: &Case) -> io::Result<Vec<u8>> {
+    /// What the program writes for a case, and whether it ends well.
+    fn line(&self, case: &Case) -> io::Result<(Vec<u8>, bool)> {
         fs::write(self.folder.join("formula.dq"), &case.text)?;
         fs::write(self.folder.join("steps.bin"), &case.records)?;
         let output = Command::new(&self.path)
             .current_dir(&self.folder)
             .output()?;
-        Ok(output.stdout)
+        Ok((output.stdout, output.status.success()))
     }
 
     /// How the program's output differs from the expected line.
     pub fn difference(&self, case: &Case) -> io::Result<Option<String>> {
         let wanted = format!("{}\n", case.expected);
-        let found = self.line(case)?;
-        let differs = found != wanted.as_bytes();
-        Ok(differs.then(|| {
-            format!(
-                "prints {:?} for {wanted:?}",
-                String::from_utf8_lossy(&found)
-            )
-        }))
+        let (found, ends_well) = self.line(case)?;
+        if found != wanted.as_bytes() {
+            let found = String::from_utf8_lossy(&found);
+            return Ok(Some(format!("prints {found:?} for {wanted:?}")));
+        }
+        Ok((!ends_well).then(|| "ends with another status than 0".into()))
     }
 }

@@ -63,4 +63,8 @@ fn a_wrong_line_is_found() {
         right += usize::from(difference.is_none());
     }
     assert!((1..200).contains(&right), "{right}");
+    fs::write(&script, "#!/bin/sh\necho open 0\nexit 3\n").unwrap();
+    for case in cases::fixed().iter().take(200) {
+        assert!(program.difference(case).unwrap().is_some());
+    }
 }

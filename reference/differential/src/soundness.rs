@@ -1,0 +1,184 @@
+//! Document 01, "The refutation statement": nothing that is true is ever refuted,
+//! by any checker of texts and records.
+
+use cases::formulas::{self, random_formula, Size};
+use cases::prover::{records_of, trimmed, Prover};
+use cases::random::Random;
+use checker::driver::Buffers;
+use checker::records::{encode, Step};
+use checker::state::State;
+use decide::decide;
+
+use crate::compare::fields;
+use crate::library::{answer, Library};
+use crate::scenario::Call;
+
+/// How the formulas of a size came out.
+#[derive(Debug, Default)]
+pub struct Tally {
+    pub decided_true: usize,
+    pub decided_false: usize,
+    pub refuted: usize,
+    pub refuted_with_forks: usize,
+}
+
+/// Small random formulas, decided by trying all families of functions, and lists
+/// of permitted steps on them. Panics where a formula that is true is refuted.
+pub fn tally(
+    size: Size,
+    seed: u64,
+    count: u64,
+    mut is_refuted: impl FnMut(&[u8], &[u8]) -> bool,
+) -> Tally {
+    let mut tally = Tally::default();
+    for index in 0..count {
+        let random = &mut Random::for_case(seed, index);
+        let text = random_formula(random, size).loose(random);
+        let Some(is_true) = decide(&text) else {
+            continue;
+        };
+        let start = State::load(&text).expect("an accepted text");
+        let mut prover = Prover::new(start.clone(), random);
+        prover.forks_first = prover.random.chance(70);
+        prover.universal_pivots = prover.random.chance(30);
+        prover.saturate(200);
+        prover.wander(40);
+        let refuted = is_refuted(&text, &records_of(&prover.steps));
+        let shown = String::from_utf8_lossy(&text);
+        assert!(!(is_true && refuted), "true and refuted:\n{shown}");
+        tally.decided_true += usize::from(is_true);
+        tally.decided_false += usize::from(!is_true);
+        tally.refuted += usize::from(refuted);
+        let short = trimmed(&start, &prover.steps).unwrap_or_default();
+        tally.refuted_with_forks += usize::from(records_of(&short).chunks(16).any(|r| r[0] == 3));
+    }
+    tally
+}
+
+/// The whole search: 3,600 formulas of three sizes. It would find a checker that
+/// refutes too little, since most false formulas of these sizes are within reach.
+pub fn searched(mut is_refuted: impl FnMut(&[u8], &[u8]) -> bool) -> [Tally; 3] {
+    let sizes = [formulas::TINY, formulas::SMALL, formulas::FORKED];
+    let tallies = sizes.map(|size| tally(size, 11, 1_200, &mut is_refuted));
+    let sum = |part: fn(&Tally) -> usize| tallies.iter().map(part).sum::<usize>();
+    assert!(sum(|t| t.decided_true) > 600, "{tallies:?}");
+    assert!(sum(|t| t.decided_false) > 1_500, "{tallies:?}");
+    let most = sum(|t| t.decided_false) * 9;
+    assert!(sum(|t| t.refuted) * 10 > most, "{tallies:?}");
+    assert!(sum(|t| t.refuted_with_forks) > 30, "{tallies:?}");
+    tallies
+}
+
+/// The clauses that a library shows in its buffers.
+fn clauses(library: &mut impl Library, buffers: &mut Buffers) -> Vec<Vec<i32>> {
+    let mut found = Vec::new();
+    for number in 1.. {
+        if answer(library, buffers, &Call::Clause(number)) & 0xFFFF != 1 {
+            break;
+        }
+        let [_, start, length, _] = fields(answer(library, buffers, &Call::Show(number)));
+        let bytes = &buffers.0[0][2 * usize::from(start)..][..2 * usize::from(length)];
+        let literal = |pair: &[u8]| i32::from(i16::from_le_bytes([pair[0], pair[1]]));
+        found.push(bytes.chunks(2).map(literal).collect());
+    }
+    found
+}
+
+/// A step on the clauses, right or wrong: a resolution on a literal and its
+/// complement, a reduction of any literal, a fork into any two parts, also
+/// such as do not make the clause.
+fn any_step(random: &mut Random, clauses: &[Vec<i32>]) -> Option<Step> {
+    if clauses.is_empty() {
+        return None;
+    }
+    let pick = |random: &mut Random| 1 + random.below(clauses.len()) as u32;
+    let number = (0..3)
+        .map(|_| pick(random))
+        .min_by_key(|&n| clauses[n as usize - 1].len())?;
+    let clause = &clauses[number as usize - 1];
+    if clause.is_empty() {
+        return None;
+    }
+    let literal = clause[random.below(clause.len())];
+    Some(match random.below(3) {
+        0 => {
+            let has = |n: &u32| clauses[*n as usize - 1].contains(&-literal);
+            let others: Vec<u32> = (1..=clauses.len() as u32).filter(has).collect();
+            let second = *others.get(random.below(others.len().max(1)))?;
+            Step::Resolution {
+                first: number,
+                second,
+                pivot: literal,
+            }
+        }
+        1 => Step::Reduction {
+            clause: number,
+            literal,
+        },
+        _ => {
+            let all = ((1u64 << clause.len()) - 1) as u32;
+            let left = random.word() as u32 & all;
+            let more = random.word() as u32 & random.word() as u32 & all;
+            // Mostly parts that overlap, sometimes parts that leave a literal out.
+            let right = match random.below(4) {
+                0 => all & !left & !more,
+                _ => all & !left | more,
+            };
+            Step::Fork {
+                clause: number,
+                left,
+                right,
+            }
+        }
+    })
+}
+
+/// Whether a library refutes the text by steps that are tried without regard to
+/// what is permitted.
+pub fn refutes_at_random(library: &mut impl Library, text: &[u8], random: &mut Random) -> bool {
+    let mut buffers = Buffers::zero();
+    if answer(library, &mut buffers, &Call::Load(text.to_vec())) & 0xFFFF != 1 {
+        return false;
+    }
+    for _ in 0..80 {
+        let clauses = clauses(library, &mut buffers);
+        if let Some(step) = any_step(random, &clauses) {
+            let record = Call::Run(encode(step).to_vec());
+            answer(library, &mut buffers, &record);
+        }
+    }
+    answer(library, &mut buffers, &Call::Run(Vec::new())) & 0xFFFF == 1
+}
+
+/// True formulas with such steps; how many there were. Panics where one is
+/// refuted.
+pub fn tried_at_random(library: &mut impl Library) -> usize {
+    let mut tried = 0;
+    for index in 0..3_000 {
+        let random = &mut Random::for_case(14, index);
+        let size = random.pick(&[formulas::TINY, formulas::SMALL, formulas::FORKED]);
+        let text = random_formula(random, size).plain();
+        if decide(&text) == Some(true) {
+            let refuted = refutes_at_random(library, &text, random);
+            let shown = String::from_utf8_lossy(&text);
+            assert!(!refuted, "true and refuted:\n{shown}");
+            tried += 1;
+        }
+    }
+    assert!(tried > 600, "{tried}");
+    tried
+}
+
+/// Whether a library, over buffers of the stated sizes, refutes the text: the
+/// steps one by one, then a run of no record.
+pub fn refutes(library: &mut impl Library, text: &[u8], records: &[u8]) -> bool {
+    let mut buffers = Buffers::zero();
+    let mut called = |call: Call| answer(library, &mut buffers, &call) & 0xFFFF;
+    if called(Call::Load(text.to_vec())) != 1 {
+        return false;
+    }
+    for record in records.chunks(16) {
+        called(Call::Run(record.to_vec()));
+    }
+    called(Call::Run(Vec::new())) == 1
+}
