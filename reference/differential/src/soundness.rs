@@ -1,6 +1,8 @@
 //! Document 01, "The refutation statement": nothing that is true is ever refuted,
 //! by any checker of texts and records.
 
+use std::collections::BTreeSet;
+
 use cases::formulas::{self, random_formula, Size};
 use cases::prover::{records_of, trimmed, Prover};
 use cases::random::Random;
@@ -120,7 +122,7 @@ fn any_step(random: &mut Random, clauses: &[Vec<i32>]) -> Option<Step> {
             let left = random.word() as u32 & all;
             let more = random.word() as u32 & random.word() as u32 & all;
             // Mostly parts that overlap, sometimes parts that leave a literal out.
-            let right = match random.below(4) {
+            let right = match random.below(3) {
                 0 => all & !left & !more,
                 _ => all & !left | more,
             };
@@ -133,16 +135,60 @@ fn any_step(random: &mut Random, clauses: &[Vec<i32>]) -> Option<Step> {
     })
 }
 
+/// Every reduction and every resolution that makes a short clause not yet there,
+/// without regard to what is permitted.
+fn short_steps(clauses: &[Vec<i32>]) -> Vec<Step> {
+    let mut seen: BTreeSet<BTreeSet<i32>> = BTreeSet::new();
+    seen.extend(
+        clauses
+            .iter()
+            .map(|clause| clause.iter().copied().collect()),
+    );
+    let numbered = || (1..).zip(clauses).filter(|(_, clause)| clause.len() <= 4);
+    let mut steps = Vec::new();
+    for (number, clause) in numbered() {
+        for &literal in clause {
+            let rest = clause.iter().copied().filter(|&l| l != literal);
+            if !seen.contains(&rest.clone().collect()) {
+                steps.push(Step::Reduction {
+                    clause: number,
+                    literal,
+                });
+            }
+            for (second, other) in numbered().filter(|(_, other)| other.contains(&-literal)) {
+                let others = other.iter().copied().filter(|&l| l != -literal);
+                let made: BTreeSet<i32> = rest.clone().chain(others).collect();
+                if made.len() <= 3 && seen.insert(made) {
+                    steps.push(Step::Resolution {
+                        first: number,
+                        second,
+                        pivot: literal,
+                    });
+                }
+            }
+        }
+    }
+    steps
+}
+
 /// Whether a library refutes the text by steps that are tried without regard to
-/// what is permitted.
+/// what is permitted: some at random, then short ones in rounds.
 pub fn refutes_at_random(library: &mut impl Library, text: &[u8], random: &mut Random) -> bool {
     let mut buffers = Buffers::zero();
     if answer(library, &mut buffers, &Call::Load(text.to_vec())) & 0xFFFF != 1 {
         return false;
     }
-    for _ in 0..80 {
+    // Few leave more room for the short ones, many reach more.
+    for _ in 0..random.pick(&[12, 16, 40]) {
         let clauses = clauses(library, &mut buffers);
         if let Some(step) = any_step(random, &clauses) {
+            let record = Call::Run(encode(step).to_vec());
+            answer(library, &mut buffers, &record);
+        }
+    }
+    for _ in 0..5 {
+        let clauses = clauses(library, &mut buffers);
+        for step in short_steps(&clauses).into_iter().take(120) {
             let record = Call::Run(encode(step).to_vec());
             answer(library, &mut buffers, &record);
         }
@@ -154,7 +200,7 @@ pub fn refutes_at_random(library: &mut impl Library, text: &[u8], random: &mut R
 /// refuted.
 pub fn tried_at_random(library: &mut impl Library) -> usize {
     let mut tried = 0;
-    for index in 0..3_000 {
+    for index in 0..5_000 {
         let random = &mut Random::for_case(14, index);
         let size = random.pick(&[formulas::TINY, formulas::SMALL, formulas::FORKED]);
         let text = random_formula(random, size).plain();
