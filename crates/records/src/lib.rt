@@ -67,8 +67,10 @@ pub fn decode(bytes: &[u8]) -> Decoded
     if bytes.len() < RECORD_SIZE {
         return Decoded::Malformed;
     }
-    // The kind with the zeros behind it; if one of these bytes is not 0, the number is 256 or more.
-    let kind = number_at(bytes, 0);
+    if bytes[1] != 0 || bytes[2] != 0 || bytes[3] != 0 {
+        return Decoded::Malformed;
+    }
+    let kind = bytes[0];
     let clause = number_at(bytes, 4);
     let second = number_at(bytes, 8);
     let third = number_at(bytes, 12);

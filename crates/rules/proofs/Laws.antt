@@ -1,4 +1,3 @@
 -- Laws of examined records
-pub mod Bytes
 pub mod Pivots
 pub mod Rules

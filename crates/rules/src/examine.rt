@@ -1,9 +1,6 @@
-// A record, decoded and examined by its rule.
+// A decoded record examined by its rule.
 use crate::rules;
 use additions::Stepped;
-use additions::adding;
-use additions::refusal;
-use records::Decoded;
 use records::Step;
 use tables::ClauseNumber;
 use tables::State;
@@ -49,25 +46,4 @@ pub fn examine(
             rules::fork(number, left, right, literals, ends, sets, kinds, state)
         }
     }
-}
-
-// The record at the front of the bytes: 20, then its rule.
-pub fn examine_bytes(
-    bytes: &[u8],
-    literals: &mut [i16],
-    ends: &mut [u16],
-    sets: &mut [u64],
-    kinds: &mut [u8],
-    state: State,
-) -> Stepped
-    requires { ⌜ Holding (tablesOf (now literals) (now ends) (now sets) (now kinds)) state ⌝ }
-    ensures { λ r. ⌜ After (tablesOf (now (literals .entry)) (now (ends .entry)) (now (sets .entry)) (now (kinds .entry))) state
-        (Run.examineBytes Limits.tables (modelIn (tablesOf (now (literals .entry)) (now (ends .entry)) (now (sets .entry)) (now (kinds .entry))) state) (now (bytes .entry)))
-        (tablesOf (now (literals .exit)) (now (ends .exit)) (now (sets .exit)) (now (kinds .exit))) r ⌝ }
-{
-    let decoded = records::decode(bytes);
-    let Decoded::Step(step) = decoded else {
-        return adding::refused(state, refusal::MALFORMED);
-    };
-    examine(step, literals, ends, sets, kinds, state)
 }

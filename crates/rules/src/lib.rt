@@ -1,4 +1,4 @@
-// A step record over the four lent tables: decoded, and examined by its rule (document 01, "Step records").
+// A decoded step record over the four lent tables, examined by its rule (document 01, "Step records").
 pub mod clause;
 pub mod examine;
 pub mod rules;

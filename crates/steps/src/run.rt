@@ -3,6 +3,7 @@ use crate::Ran;
 use crate::RunAnswer;
 use crate::StepAnswer;
 use additions::refusal;
+use records::Decoded;
 use rules::examine;
 use tables::State;
 use tables::StepNumber;
@@ -78,7 +79,11 @@ fn run_records(
     let mut current = state;
     while at < bytes.len() {
         let end = record_end(at, bytes.len());
-        let stepped = examine::examine_bytes(&bytes[at..end], literals, ends, sets, kinds, current);
+        let decoded = records::decode(&bytes[at..end]);
+        let Decoded::Step(step) = decoded else {
+            return stopped(current, count + 1, refusal::MALFORMED);
+        };
+        let stepped = examine::examine(step, literals, ends, sets, kinds, current);
         let next = stepped.state;
         let answer = stepped.answer;
         if let StepAnswer::Refused(number) = answer {

@@ -1,4 +1,5 @@
--- The record at the front of the bytes: one law for each outcome of its decoding.
+-- The record at the front of the bytes (dqbf, specs/Run.antt): one law for each outcome of its decoding.
+-- Offers `bytes-malformed`, `bytes-examined`.
 use mathlib.Core.Path.{_≡_, sym, _∙_, ap}
 use mathlib.Core.List.{List}
 use Prim.Native.Nat.{ℕ}
