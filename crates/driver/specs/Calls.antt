@@ -1,11 +1,11 @@
 -- The exported calls over the driver's buffers: decode, the definition of the call over tables, encode (document 01, "The solver's driver is C++").
 -- "too few bytes in any of them is 1, and nothing lent is changed then, except that a load zeroes a state lent whole."
--- Offers `After`, `loadBytes`, `runBytes`, and the results of the calls that write nothing: `showBytes`, `clauseBytes`, `variableBytes`; `loadWhole` and `runWhole`
+-- Offers `AllBytes`, `After`, `loadBytes`, `runBytes`, and the results of the calls that write nothing: `showBytes`, `clauseBytes`, `variableBytes`; `loadWhole` and `runWhole`
 -- are those over buffers that are long enough. `interfaceNumber` is the number of this interface.
 use mathlib.Core.Bool.{cond}
 use mathlib.Core.List.{List, []}
-use Prim.Native.Nat.{ℕ}
-use lib.ListN.{replicate}
+use Prim.Native.Nat.{ℕ, _<_}
+use lib.ListN.{getD, replicate}
 use Rattle.dqbf.specs.Refusal.{refusal}
 use Rattle.dqbf.specs.Questions.{noClause, noVariable}
 use Rattle.questions.specs.Answers.{lengthAnswer, variableAnswer, shownStart, shownClause}
@@ -20,6 +20,18 @@ use Rattle.results.specs.Results.{loadResult, runResult, clauseResult, showResu
 -- One higher with each change of a function, a buffer's size or a result: KEFTHRUN_INTERFACE of include/kefthrun.h is the same.
 abbrev pub interfaceNumber : ℕ
 interfaceNumber = 1
+
+-- a list of bytes; the place past the end counts as 0
+abbrev pub Bytes : List ℕ → Type 0
+Bytes l = (i : ℕ) → getD l i 0 < 256
+
+-- every entry of the buffers is a byte
+pub record AllBytes (b : Buffers) : Type 0 where
+  pub literals : Bytes (b .literals)
+  pub ends : Bytes (b .ends)
+  pub sets : Bytes (b .sets)
+  pub kinds : Bytes (b .kinds)
+  pub state : Bytes (b .state)
 
 -- the buffers behind a call, and its result
 pub record After : Type 0 where

@@ -3,7 +3,7 @@ ghost use mathlib.Core.Path.{_≡_};
 ghost use Prim.Native.Nat.{_≤_};
 ghost use lib.ListN.{length};
 ghost use Rattle.buffers.specs.Buffers.{buffersOf};
-ghost use Rattle.driver.specs.Calls.{After, runBytes, runWhole};
+ghost use Rattle.driver.specs.Calls.{After, AllBytes, runBytes, runWhole};
 use codec::state as state_codec;
 use dqbf::limits::CLAUSE_LIMIT;
 use dqbf::limits::LITERAL_LIMIT;
@@ -64,12 +64,13 @@ pub extern "C" fn kefthrun_run(
     kinds: &mut [u8],
     state: &mut [u8],
 ) -> u64
-    ensures { λ r. ⌜ _≡_ {A = After}
+    ensures { λ r. ⌜ (_≡_ {A = After}
         (record {
           buffers = buffersOf (now (literals .exit)) (now (ends .exit)) (now (sets .exit)) (now (kinds .exit)) (now (state .exit));
           result = r;
         })
-        (runBytes (buffersOf (now (literals .entry)) (now (ends .entry)) (now (sets .entry)) (now (kinds .entry)) (now (state .entry))) (now (records .entry))) ⌝ }
+        (runBytes (buffersOf (now (literals .entry)) (now (ends .entry)) (now (sets .entry)) (now (kinds .entry)) (now (state .entry))) (now (records .entry))))
+        × AllBytes (buffersOf (now (literals .entry)) (now (ends .entry)) (now (sets .entry)) (now (kinds .entry)) (now (state .entry))) ⌝ }
 {
     if !buffers::is_whole(literals, ends, sets, kinds, state) {
         return results::pack(results::BAD, 0, results::TABLE_TOO_SHORT);

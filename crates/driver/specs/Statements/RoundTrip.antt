@@ -1,25 +1,15 @@
 -- Decoding and encoding undo each other (document 01, "each table is its entries in little-endian bytes").
 use mathlib.Core.Path.{_≡_}
 use mathlib.Core.Bool.{true}
-use mathlib.Core.List.{List}
-use Prim.Native.Nat.{ℕ, _<_}
-use lib.ListN.{getD}
 use Rattle.dqbf.specs.Limits.{tables}
 use Rattle.dqbf.specs.Model.{Model}
 use Rattle.dqbf.specs.Valid.{Valid}
 use Rattle.tables.specs.Spread.{spread, stateOf}
 use Rattle.buffers.specs.Buffers.{Buffers, whole, tablesIn, stateIn, written}
+use Rattle.driver.specs.Calls.{AllBytes}
 
-abbrev pub Bytes : List ℕ → Type 0
-Bytes l = (i : ℕ) → getD l i 0 < 256
-
-pub record AllBytes (b : Buffers) : Type 0 where
-  pub literals : Bytes (b .literals)
-  pub ends : Bytes (b .ends)
-  pub sets : Bytes (b .sets)
-  pub state : Bytes (b .state)
-
--- Tables and state that are written back as they were read leave the buffers as they were: a refused call changes nothing.
+-- Tables and state that are written back as they were read leave the buffers as they were. That entries are bytes is promised of every lent buffer
+-- (`AllBytes` in the contract of `kefthrun_run`).
 abbrev pub SameBytes : Type 0
 SameBytes = (b : Buffers) → whole b ≡ true → AllBytes b → written b (tablesIn b) (stateIn b) ≡ b
 

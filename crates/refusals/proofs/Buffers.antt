@@ -1,0 +1,164 @@
+-- The claims of specs/Statements.antt about the driver's buffers.
+use mathlib.Core.Path.{_≡_, refl, sym, ap, _∙_}
+use mathlib.Core.Bool.{Bool, true, false}
+use mathlib.Core.List.{List, [], _∷_, _++_, map, append-nil}
+use Prim.Native.Nat.{ℕ, zero, suc, _+_, _*_, _≤_}
+use lib.IntN.{pos}
+use lib.ListN.{length, take, drop, replicate, length-replicate, replicate-append-replicate, drop-of-length-le}
+use native.Mathlib.Nat.{mul-zero, mul-suc}
+use native.Mathlib.Omega.{arith}
+use Rattle.dqbf.specs.Limits.{clauseLimit, literalLimit, variableLimit, recordSize}
+use Rattle.tables.specs.Spread.{zeroState}
+use Rattle.tables.specs.declared.State.{State}
+use Rattle.dqdimacs.specs.Loading.{AfterLoad, loadOf}
+use Rattle.dqdimacs.specs.declared.LoadAnswer.{LoadAnswer}
+use Rattle.dqdimacs.specs.declared.LoadAnswer.the-variants as Load
+use Rattle.steps.specs.Steps.{runOf}
+use Rattle.steps.specs.Runs.{verdictIn}
+use Rattle.steps.specs.declared.RunAnswer.{RunAnswer}
+use Rattle.steps.specs.declared.RunAnswer.the-variants as Run
+use Rattle.codec.specs.Bytes.{digits, entries, bytesOf, bits, literalsIn, literalBytes, over}
+use Rattle.codec.specs.State.{counts, stateBytes}
+use Rattle.codec.proofs.Laws.Bytes.{entries-length}
+use Rattle.codec.proofs.Laws.Turns.{literals-length}
+use Rattle.buffers.specs.Buffers.{Buffers, whole, tablesIn, stateIn, written}
+use Rattle.buffers.proofs.Laws.{lent-long}
+use Rattle.results.specs.Results.{packed, field, runResult}
+use Rattle.driver.specs.Calls.{After, AllBytes, loaded, loadShort, loadBytes, ran, runShort, runBytes}
+use Rattle.driver.specs.Statements.Fields.{fields, loadFields, runFields}
+use Rattle.driver.proofs.Fields.{load-tells, run-tells}
+use Rattle.driver.proofs.RoundTrip.{same-bytes}
+use Rattle.refusals.specs.Statements.{RunBytesShort, LoadBytesShort, RunBytesSame, RunBytesStopped, Zeroed, zeroedBytes, LoadBytesZeroed}
+use Rattle.refusals.proofs.Tables.{run-same, run-stopped, load-zeroed}
+
+-- ---- 1
+
+pub run-bytes-short : RunBytesShort
+unfolding runBytes runShort
+run-bytes-short b records h = rw h
+
+pub load-bytes-short : LoadBytesShort
+unfolding loadBytes loadShort
+load-bytes-short b text h = rw h
+
+-- ---- a refused run
+
+-- a result that tells a refusal is one of that answer
+told-bad : (a : RunAnswer) (step number : ℕ) → runFields a ≡ runFields (Run.Bad (record { 0 = step }) number) → a ≡ Run.Bad (record { 0 = step }) number
+unfolding runFields
+told-bad (Run.Refuted s k) step number e = absurd (let z : _≡_ {A = ℕ} 0 2 = cc in omega arith)
+told-bad (Run.Open s) step number e = absurd (let z : _≡_ {A = ℕ} 1 2 = cc in omega arith)
+told-bad (Run.Bad s n) step number e =
+    let first : s .0 ≡ step = cc in
+    let second : n ≡ number = cc in
+    λ i. Run.Bad (record { 0 = first i }) (second i)
+
+module _ (b : Buffers) (records : List ℕ) where
+  whole-run : whole b ≡ true → runBytes b records ≡ ran b (runOf (tablesIn b) (stateIn b) records)
+  unfolding runBytes
+  whole-run w = rw w
+
+  run-answer : (step number : ℕ) → whole b ≡ true → fields (runBytes b records .result) ≡ runFields (Run.Bad (record { 0 = step }) number)
+      → runOf (tablesIn b) (stateIn b) records .answer ≡ Run.Bad (record { 0 = step }) number
+  run-answer step number w e = told-bad (runOf (tablesIn b) (stateIn b) records .answer) step number (sym (run-tells b records w) ∙ e)
+
+  same-whole : AllBytes b → (step number : ℕ) → step ≤ 1 → whole b ≡ true → fields (runBytes b records .result) ≡ runFields (Run.Bad (record { 0 = step }) number)
+      → runBytes b records .buffers ≡ b
+  unfolding ran
+  same-whole k step number f w e =
+      let same = run-same (tablesIn b) (stateIn b) records step number f (run-answer step number w e) in
+      rw (whole-run w, same) (same-bytes b w k)
+
+pub run-bytes-same : RunBytesSame
+unfolding runShort
+run-bytes-same b records step number k f e = by (whole b) refl
+  where
+    by : (c : Bool) → whole b ≡ c → runBytes b records .buffers ≡ b
+    by true w = same-whole b records k step number f w e
+    by false w = ap (λ (x : After). x .buffers) (run-bytes-short b records w)
+
+pub run-bytes-stopped : RunBytesStopped
+unfolding ran runShort fields runFields runResult packed field
+run-bytes-stopped b records k number e = by (whole b) refl
+  where
+    by : (c : Bool) → whole b ≡ c
+        → runBytes b (take (recordSize * k) records)
+        ≡ record { buffers = runBytes b records .buffers; result = runResult (verdictIn (runOf (tablesIn b) (stateIn b) records .state)) }
+    by true w =
+        let stopped = run-stopped (tablesIn b) (stateIn b) records k number (run-answer b records (suc k) number w e) in
+        rw (whole-run b (take (recordSize * k) records) w, stopped .0, whole-run b records w)
+    by false w =
+        let told = sym (ap (λ (x : After). fields (x .result)) (run-bytes-short b records w)) ∙ e in
+        absurd (let z : _≡_ {A = ℕ} 0 (suc k) = cc in omega (arith, z))
+
+-- ---- a refused formula
+
+told-refused : (a : LoadAnswer) (line number : ℕ) → loadFields a ≡ loadFields (Load.Refused line number) → a ≡ Load.Refused line number
+unfolding loadFields
+told-refused Load.Accepted line number e = absurd (let z : _≡_ {A = ℕ} 0 1 = cc in omega arith)
+told-refused (Load.Refused l n) line number e =
+    let first : l ≡ line = cc in
+    let second : n ≡ number = cc in
+    λ i. Load.Refused (first i) (second i)
+
+-- zeros in bytes
+zero-digits : (w : ℕ) → digits w 0 ≡ replicate w 0
+unfolding digits
+zero-digits zero = refl
+zero-digits (suc w) = ap (λ (l : List ℕ). 0 ∷ l) (zero-digits w)
+
+zero-bytes : (w n : ℕ) → bytesOf w (replicate n 0) ≡ replicate (w * n) 0
+unfolding bytesOf
+zero-bytes w zero = rw (mul-zero w)
+zero-bytes w (suc n) =
+    let more : w + w * n ≡ w * suc n = omega (arith, mul-suc w n) in
+    rw (zero-digits w, zero-bytes w n) (replicate-append-replicate w (w * n) 0 ∙ ap (λ (k : ℕ). replicate k 0) more)
+
+zero-bits : (n : ℕ) → map bits (replicate n (pos 0)) ≡ replicate n 0
+unfolding bits
+zero-bits zero = refl
+zero-bits (suc n) = ap (λ (l : List ℕ). 0 ∷ l) (zero-bits n)
+
+zero-literals : (n : ℕ) → literalBytes (replicate n (pos 0)) ≡ replicate (2 * n) 0
+unfolding literalBytes
+zero-literals n = ap (bytesOf 2) (zero-bits n) ∙ zero-bytes 2 n
+
+zero-state : (l : List ℕ) → over (stateBytes zeroState) l ≡ over (replicate 16 0) l
+unfolding stateBytes counts bytesOf digits
+zero-state l = refl
+
+-- a table of the stated size has no entry past it
+none-past : {A : Type 0} (n : ℕ) (x : A) (l : List A) → length l ≡ n → replicate n x ++ drop n l ≡ replicate n x
+none-past n x l e = rw (drop-of-length-le l {i = n} (omega arith), append-nil)
+
+zeros-over : (n : ℕ) (l : List ℕ) → replicate n 0 ++ drop n l ≡ over (replicate n 0) l
+unfolding over
+zeros-over n l = rw (length-replicate {A = ℕ} n 0)
+
+module _ (b : Buffers) (text : List ℕ) (w : whole b ≡ true) where
+  whole-load : loadBytes b text ≡ loaded b (loadOf (tablesIn b) text)
+  unfolding loadBytes
+  whole-load = rw w
+
+  load-answer : (line number : ℕ) → fields (loadBytes b text .result) ≡ loadFields (Load.Refused line number)
+      → loadOf (tablesIn b) text .answer ≡ Load.Refused line number
+  load-answer line number e = told-refused (loadOf (tablesIn b) text .answer) line number (sym (load-tells b text w) ∙ e)
+
+  zeroed-written : (x : AfterLoad) → Zeroed (tablesIn b) x → written b (x .tables) (x .state) ≡ zeroedBytes b
+  unfolding written tablesIn zeroedBytes
+  zeroed-written x z = λ i. record {
+    literals = ap (λ (l : List ℕ). over l (b .literals))
+        (ap literalBytes (z .literals ∙ none-past literalLimit (pos 0) (literalsIn literalLimit (b .literals)) (literals-length literalLimit (b .literals))) ∙ zero-literals literalLimit) i;
+    ends = ap (λ (l : List ℕ). over l (b .ends))
+        (ap (bytesOf 2) (z .ends ∙ none-past clauseLimit 0 (entries 2 clauseLimit (b .ends)) (entries-length 2 clauseLimit (b .ends))) ∙ zero-bytes 2 clauseLimit) i;
+    sets = ap (λ (l : List ℕ). over l (b .sets))
+        (ap (bytesOf 8) (z .sets ∙ none-past variableLimit 0 (entries 8 variableLimit (b .sets)) (entries-length 8 variableLimit (b .sets))) ∙ zero-bytes 8 variableLimit) i;
+    kinds = (z .kinds ∙ zeros-over variableLimit (b .kinds)) i;
+    state = (ap (λ (s : State). over (stateBytes s) (b .state)) (z .state) ∙ zero-state (b .state)) i;
+  }
+
+pub load-bytes-zeroed : LoadBytesZeroed
+unfolding loaded
+load-bytes-zeroed b text line number w e =
+    let z = load-zeroed (tablesIn b) text line number (lent-long b w) (load-answer b text w line number e) in
+    rw (whole-load b text w) (zeroed-written b text w (loadOf (tablesIn b) text) z)

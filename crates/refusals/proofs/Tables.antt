@@ -1,0 +1,268 @@
+-- The claims of specs/Statements.antt about lent tables.
+use mathlib.Core.Path.{_≡_, refl, sym, ap, _∙_}
+use mathlib.Core.Bool.{Bool, true, false, cond, not}
+use mathlib.Core.List.{List, [], _∷_}
+use Prim.Native.Nat.{ℕ, zero, suc, _+_, _*_, _≤_}
+use lib.Dec.{eqb, ltb}
+use lib.ListN.{length, take, drop, getD, length-take, length-drop}
+use lib.Seq.{take-nil, drop-nil, take-take, drop-drop}
+use native.Mathlib.Omega.{arith}
+use borrow.Author.Tests.{ltb-false, le-ltb}
+use Rattle.dqbf.specs.Limits.{Room, tables, recordsLimit, recordSize}
+use Rattle.dqbf.specs.Refusal.{Refusal, refusal}
+use Rattle.dqbf.specs.Record.{stretches}
+use Rattle.dqbf.specs.Model.{Model, clauses, steps, lowestEmpty}
+use Rattle.dqbf.specs.Rules.{add}
+use Rattle.dqbf.specs.Run.{Examined, accepts, refuses, after, examineBytes, Verdict, refuted, open′, bad, verdictOf, goOn, runFrom, run}
+use Rattle.dqbf.specs.Run as Calculus
+use Rattle.dqbf.specs.Valid.{Valid}
+use Rattle.dqbf.proofs.StepsKeepValid.{call-keeps}
+use Rattle.records.proofs.Laws.Records.{record-front}
+use Rattle.tables.specs.Tables.{Tables, modelIn}
+use Rattle.tables.specs.Spread.{flat, endsFrom, kindRow, setRow, over, spread, stateOf}
+use Rattle.tables.specs.WellFormed.{long, wellFormed}
+use Rattle.tables.specs.declared.State.{State}
+use Rattle.tables.specs.declared.StepNumber.{StepNumber}
+use Rattle.tables.proofs.Laws.Spread.{model-held, state-held, valid-held, model-back, formed-spread, long-spread, blank-state}
+use Rattle.dqdimacs.specs.Loading.{loadShort, loadOf}
+use Rattle.dqdimacs.proofs.LoadFormed.{refused-zeroed}
+use Rattle.additions.specs.declared.StepAnswer.the-variants.{Refused}
+use Rattle.steps.specs.Steps.{AfterStep, stepAnswer, examined, stepRefused, stepOf, AfterRun, runAnswer, ranOn, runRefused, runOf}
+use Rattle.steps.specs.Runs.{recordsIn, verdictIn}
+use Rattle.steps.specs.declared.RunAnswer.the-variants.{Refuted, Open, Bad}
+use Rattle.steps.proofs.Laws.Runs.{stretches-enough}
+use Rattle.refusals.specs.Statements.{ShortSame, FormlessSame, StepSame, RunSame, RunStopped, LoadZeroed}
+
+-- ---- 1 and 2
+
+pub short-same : ShortSame
+unfolding loadOf loadShort stepOf stepRefused runOf runRefused
+short-same t s bytes h = (rw (h, blank-state), rw h, rw h)
+
+pub formless-same : FormlessSame
+unfolding stepOf stepRefused runOf runRefused
+formless-same t s bytes h k = (rw (h, k), rw (h, k))
+
+-- ---- a refused step
+
+module _ (t : Tables) (s : State) (n : ℕ) where
+  abbrev same : AfterStep
+  same = record { tables = t; state = s; answer = Refused n }
+
+  same-examined : long t ≡ true → wellFormed t s ≡ true → (e : Examined) → examined t (modelIn t s) e .answer ≡ Refused n → examined t (modelIn t s) e ≡ same
+  unfolding examined stepAnswer after
+  same-examined h k (accepts a) e = absurd (let z : _≡_ {A = ℕ} 0 1 = cc in omega arith)
+  same-examined h k (refuses x) e = λ i. record { tables = model-held t s h k i; state = state-held t s h k i; answer = e i }
+
+  step-by : (a b : Bool) → a ≡ long t → b ≡ wellFormed t s → (e : Examined)
+      → cond (not a) (stepRefused t s 1) (cond (not b) (stepRefused t s 2) (examined t (modelIn t s) e)) .answer ≡ Refused n
+      → cond (not a) (stepRefused t s 1) (cond (not b) (stepRefused t s 2) (examined t (modelIn t s) e)) ≡ same
+  unfolding stepRefused
+  step-by false b h k e q = λ i. record { tables = t; state = s; answer = q i }
+  step-by true false h k e q = λ i. record { tables = t; state = s; answer = q i }
+  step-by true true h k e q = same-examined (sym h) (sym k) e q
+
+pub step-same : StepSame
+unfolding stepOf
+step-same t s bytes n q = step-by t s n (long t) (wellFormed t s) refl refl (examineBytes tables (modelIn t s) bytes) q
+
+-- ---- a run of the calculus that stops
+
+-- a verdict at the end of the list is not bad
+ended-good : (m : Model) (k : ℕ) (x : Refusal) → verdictOf m ≡ bad k x → ⊥
+unfolding verdictOf
+ended-good m k x e = by (eqb (lowestEmpty m) 0) e
+  where
+    by : (b : Bool) → cond b (open′ (steps m)) (refuted (steps m) (lowestEmpty m)) ≡ bad k x → ⊥
+    by true e = let z : _≡_ {A = ℕ} 0 1 = cc in omega arith
+    by false e = let z : _≡_ {A = ℕ} 0 1 = cc in omega arith
+
+-- what the records before the refused one leave, and that it is refused there
+record Stopped (room : Room) (l : List (List ℕ)) (n : ℕ) (m : Model) (k : ℕ) (x : Refusal) : Type 0 where
+  before : ℕ
+  step : k ≡ suc (n + before)
+  front : runFrom room (take before l) n m ≡ record { model = runFrom room l n m .model; verdict = verdictOf (runFrom room l n m .model) }
+  refused : examineBytes room (runFrom room l n m .model) (getD l before []) ≡ refuses x
+
+stopped-at : (room : Room) (l : List (List ℕ)) (n : ℕ) (m : Model) (k : ℕ) (x : Refusal) → runFrom room l n m .verdict ≡ bad k x → Stopped room l n m k x
+unfolding runFrom goOn
+stopped-at room [] n m k x e = absurd (ended-good m k x e)
+stopped-at room (bs ∷ rest) n m k x e = going (λ m′ q. stopped-at room rest (suc n) m′ k x q) (examineBytes room m bs) refl e
+  where
+    going : ((m′ : Model) → runFrom room rest (suc n) m′ .verdict ≡ bad k x → Stopped room rest (suc n) m′ k x) → (w : Examined) → examineBytes room m bs ≡ w
+        → goOn w m (suc n) (λ m′. runFrom room rest (suc n) m′) .verdict ≡ bad k x → Stopped room (bs ∷ rest) n m k x
+    going later (accepts a) h e =
+        let s = later (add m a) e in
+        record { before = suc (s .before); step = omega (arith, s .step); front = rw h (s .front); refused = rw h (s .refused) }
+    going later (refuses y) h e =
+        let number : suc n ≡ k = cc in
+        let same : y ≡ x = cc in
+        record { before = 0; step = omega (arith, number); front = rw h; refused = rw h (h ∙ ap refuses same) }
+
+-- ---- the bytes of the records before a step
+
+drop-front : (n m k : ℕ) (l : List ℕ) → k ≡ n + m → drop n (take k l) ≡ take m (drop n l)
+drop-front zero m k l e = let h : k ≡ m = omega arith in ap (λ (j : ℕ). take j l) h
+drop-front (suc n) m zero l e = absurd (omega arith)
+drop-front (suc n) m (suc k) [] e = sym (take-nil m)
+drop-front (suc n) m (suc k) (x ∷ xs) e = drop-front n m k xs (omega arith)
+
+stretches-take : (n k : ℕ) (bs : List ℕ) → stretches n (take (recordSize * k) bs) ≡ take k (stretches n bs)
+unfolding stretches
+stretches-take zero k bs = sym (take-nil k)
+stretches-take (suc n) k [] = rw (take-nil {A = ℕ} (recordSize * k)) (sym (take-nil k))
+stretches-take (suc n) zero (b ∷ bs) = refl
+stretches-take (suc n) (suc k) (b ∷ bs) =
+    let j = 15 + recordSize * k in
+    let size : recordSize * suc k ≡ suc j = omega arith in
+    let first : take recordSize (take (suc j) (b ∷ bs)) ≡ take recordSize (b ∷ bs) = take-take recordSize (suc j) (b ∷ bs) (omega arith) in
+    let rest : drop recordSize (take (suc j) (b ∷ bs)) ≡ take (recordSize * k) (drop recordSize (b ∷ bs)) = drop-front recordSize (recordSize * k) (suc j) (b ∷ bs) (omega arith) in
+    rw (size, first, rest, stretches-take n k (drop recordSize (b ∷ bs)))
+
+records-take : (k : ℕ) (bs : List ℕ) → recordsIn (take (recordSize * k) bs) ≡ take k (recordsIn bs)
+records-take k bs =
+    let shorter = length-take (recordSize * k) bs in
+    stretches-enough (length (take (recordSize * k) bs)) (length bs) (take (recordSize * k) bs) (omega arith) (omega (arith, shorter)) ∙ stretches-take (length bs) k bs
+
+stretches-at : (n k : ℕ) (bs : List ℕ) → length bs ≤ n → getD (stretches n bs) k [] ≡ take recordSize (drop (recordSize * k) bs)
+unfolding stretches
+stretches-at zero k [] h = rw (drop-nil {A = ℕ} (recordSize * k))
+stretches-at zero k (b ∷ bs) h = absurd (omega arith)
+stretches-at (suc n) k [] h = rw (drop-nil {A = ℕ} (recordSize * k))
+stretches-at (suc n) zero (b ∷ bs) h = refl
+stretches-at (suc n) (suc k) (b ∷ bs) h =
+    let size : recordSize * suc k ≡ recordSize + recordSize * k = omega arith in
+    stretches-at n k (drop recordSize (b ∷ bs)) (omega (arith, length-drop recordSize (b ∷ bs)))
+    ∙ ap (λ (l : List ℕ). take recordSize l) (drop-drop (recordSize * k) recordSize (b ∷ bs) ∙ ap (λ (i : ℕ). drop i (b ∷ bs)) (sym size))
+
+-- ---- a run of the calculus over bytes
+
+front-examined : (room : Room) (m : Model) (bs : List ℕ) → examineBytes room m (take recordSize bs) ≡ examineBytes room m bs
+unfolding examineBytes
+front-examined room m bs = rw (record-front bs)
+
+module _ (m : Model) (bytes : List ℕ) (x : Refusal) where
+  abbrev ranBy : Bool → Calculus.Ran
+  ranBy c = cond c (record { model = m; verdict = bad 0 (refusal 11) }) (runFrom tables (recordsIn bytes) 0 m)
+
+  -- refused as a whole, or at the first record
+  run-whole : (k : ℕ) → k ≤ 1 → run tables m bytes .verdict ≡ bad k x → run tables m bytes .model ≡ m
+  unfolding run runFrom
+  run-whole k h e = by (ltb recordsLimit (length bytes)) e
+    where
+      none-before : (z : Model) (i : ℕ) → i ≡ 0 → runFrom tables (take i (recordsIn bytes)) 0 m ≡ record { model = z; verdict = verdictOf z } → z ≡ m
+      none-before z i o f = sym (ap (λ (r : Calculus.Ran). r .model) (rw o at f))
+
+      by : (c : Bool) → ranBy c .verdict ≡ bad k x → ranBy c .model ≡ m
+      by true e = refl
+      by false e =
+          let s = stopped-at tables (recordsIn bytes) 0 m k x e in
+          none-before (runFrom tables (recordsIn bytes) 0 m .model) (s .before) (omega (arith, s .step)) (s .front)
+
+  module _ (k : ℕ) where
+    abbrev Before : Model → Type 0
+    Before z =
+        (run tables m (take (recordSize * k) bytes) ≡ record { model = z; verdict = verdictOf z })
+        × (examineBytes tables z (drop (recordSize * k) bytes) ≡ refuses x)
+
+    run-front : run tables m bytes .verdict ≡ bad (suc k) x → Before (run tables m bytes .model)
+    unfolding run
+    run-front e = by (ltb recordsLimit (length bytes)) refl e
+      where
+        by : (c : Bool) → ltb recordsLimit (length bytes) ≡ c → ranBy c .verdict ≡ bad (suc k) x → Before (ranBy c .model)
+        by true h e = absurd (let z : _≡_ {A = ℕ} 0 (suc k) = cc in omega (arith, z))
+        by false h e =
+            let s = stopped-at tables (recordsIn bytes) 0 m (suc k) x e in
+            let at : s .before ≡ k = omega (arith, s .step) in
+            let few : length (take (recordSize * k) bytes) ≤ recordsLimit = omega (arith, length-take (recordSize * k) bytes, ltb-false recordsLimit (length bytes) h) in
+            let z = runFrom tables (recordsIn bytes) 0 m .model in (
+              rw (le-ltb recordsLimit (length (take (recordSize * k) bytes)) few, records-take k bytes) (rw at at (s .front)),
+              sym (front-examined tables z (drop (recordSize * k) bytes))
+                  ∙ ap (examineBytes tables z) (sym (stretches-at (length bytes) k bytes (omega arith))) ∙ (rw at at (s .refused)),
+            )
+
+-- ---- a refused run
+
+-- the verdict of an answer that names a step
+told-bad : (v : Verdict) (k n : ℕ) → runAnswer v ≡ Bad (record { 0 = k }) n → (x : Refusal) × (v ≡ bad k x) × (x .number ≡ n)
+unfolding runAnswer
+told-bad (refuted a b) k n e = absurd (let z : _≡_ {A = ℕ} 0 1 = cc in omega arith)
+told-bad (open′ a) k n e = absurd (let z : _≡_ {A = ℕ} 0 1 = cc in omega arith)
+told-bad (bad a x) k n e =
+    let step : _≡_ {A = StepNumber} (record { 0 = a }) (record { 0 = k }) = cc in
+    (x, ap (λ (i : StepNumber). bad (i .0) x) step, cc)
+
+-- the verdict of a state
+verdict-told : (m : Model) → runAnswer (verdictOf m) ≡ verdictIn (stateOf m)
+unfolding runAnswer verdictOf verdictIn stateOf
+verdict-told m = by (eqb (lowestEmpty m) 0)
+  where
+    by : (b : Bool)
+        → runAnswer (cond b (open′ (steps m)) (refuted (steps m) (lowestEmpty m)))
+        ≡ cond b (Open (record { 0 = steps m })) (Refuted (record { 0 = steps m }) (record { 0 = lowestEmpty m }))
+    by true = refl
+    by false = refl
+
+run-valid : (m : Model) (bytes : List ℕ) → Valid tables m → Valid tables (run tables m bytes .model)
+unfolding Calculus.next
+run-valid m bytes v = call-keeps tables m v (Calculus.runCall bytes)
+
+module _ (t : Tables) (s : State) (bytes : List ℕ) (n : ℕ) where
+  abbrev runBy : Bool → Bool → AfterRun
+  runBy a b = cond (not a) (runRefused t s 1) (cond (not b) (runRefused t s 2) (ranOn t (run tables (modelIn t s) bytes)))
+
+  whole-by : (step : ℕ) → step ≤ 1 → (a b : Bool) → a ≡ long t → b ≡ wellFormed t s → runBy a b .answer ≡ Bad (record { 0 = step }) n
+      → runBy a b ≡ record { tables = t; state = s; answer = Bad (record { 0 = step }) n }
+  unfolding runRefused ranOn
+  whole-by step f false b h k e = λ i. record { tables = t; state = s; answer = e i }
+  whole-by step f true false h k e = λ i. record { tables = t; state = s; answer = e i }
+  whole-by step f true true h k e =
+      let q = told-bad (run tables (modelIn t s) bytes .verdict) step n e in
+      let kept = run-whole (modelIn t s) bytes (q .0) step f (q .1) in
+      λ i. record {
+        tables = (ap (λ (m : Model). spread m t) kept ∙ model-held t s (sym h) (sym k)) i;
+        state = (ap stateOf kept ∙ state-held t s (sym h) (sym k)) i;
+        answer = e i;
+      }
+
+  module _ (k : ℕ) where
+    abbrev Stopping : AfterRun → Type 0
+    Stopping z =
+        (runOf t s (take (recordSize * k) bytes) ≡ record { tables = z .tables; state = z .state; answer = verdictIn (z .state) })
+        × (stepOf (z .tables) (z .state) (drop (recordSize * k) bytes) .answer ≡ Refused n)
+
+    stopped-by : (a b : Bool) → a ≡ long t → b ≡ wellFormed t s → runBy a b .answer ≡ Bad (record { 0 = suc k }) n → Stopping (runBy a b)
+    unfolding runRefused ranOn runOf stepOf examined stepAnswer
+    stopped-by false b h j e = absurd (let z : _≡_ {A = StepNumber} (record { 0 = 0 }) (record { 0 = suc k }) = cc in omega (arith, ap (λ (i : StepNumber). i .0) z))
+    stopped-by true false h j e = absurd (let z : _≡_ {A = StepNumber} (record { 0 = 0 }) (record { 0 = suc k }) = cc in omega (arith, ap (λ (i : StepNumber). i .0) z))
+    stopped-by true true h j e =
+        let m = run tables (modelIn t s) bytes .model in
+        let q = told-bad (run tables (modelIn t s) bytes .verdict) (suc k) n e in
+        let f = run-front (modelIn t s) bytes (q .0) k (q .1) in
+        let v : Valid tables m = run-valid (modelIn t s) bytes (valid-held t s (sym h) (sym j)) in (
+          rw (← h, ← j, f .0, verdict-told m),
+          rw (long-spread m v t (sym h), formed-spread m v t, model-back m v t, f .1) (ap Refused (q .2)),
+        )
+
+pub run-same : RunSame
+unfolding runOf
+run-same t s bytes step n f e = whole-by t s bytes n step f (long t) (wellFormed t s) refl refl e
+
+pub run-stopped : RunStopped
+unfolding runOf
+run-stopped t s bytes k n e = stopped-by t s bytes n k (long t) (wellFormed t s) refl refl e
+
+-- ---- a refused formula
+
+pub load-zeroed : LoadZeroed
+unfolding spread over flat endsFrom setRow kindRow clauses
+load-zeroed t text line number h e =
+    let z = refused-zeroed t text line number h e in
+    let of = z .tables in
+    record {
+      literals = ap (λ (x : Tables). x .literals) of;
+      ends = ap (λ (x : Tables). x .ends) of;
+      sets = ap (λ (x : Tables). x .sets) of;
+      kinds = ap (λ (x : Tables). x .kinds) of;
+      state = z .state;
+    }

@@ -1,0 +1,133 @@
+-- DEMAND 1, "refusals leave exactly the stated contents" (document 01, "Numbers of refusal": "After 1 and 2 tables and state are unchanged", to "as before that
+-- step"): what each refused call leaves.
+--
+-- `loadOf`, `stepOf` and `runOf` are the outcomes that the contracts of `load`, `step` and `run` promise of lent tables. So the claims hold of these calls for all
+-- table contents, every state and all bytes; `long` is the test of number 1, `wellFormed` that of number 2. Entries past the stated sizes after a call that is
+-- not refused: `RestStays` in the crate `tables`.
+--     ShortSame          number 1: load, step and run leave all four tables, step and run the state; a load hands back a zero state
+--     FormlessSame       number 2: step and run leave tables and state
+--     StepSame           a refused step, whatever its number, leaves tables and state
+--     RunSame            a run that is refused as a whole (step 0) or at its first record (step 1) leaves tables and state
+--     RunStopped         a run stopped at a step leaves what the run over the records before that step leaves
+--     LoadZeroed         a refused formula leaves zeros over the stated sizes, the entries past them, and a zero state
+-- `loadBytes` and `runBytes` are the outcomes that the contracts of the exports `kefthrun_load` and `kefthrun_run` promise of the driver's buffers; `whole` is
+-- the test of number 1. The contract of `kefthrun_run` promises `AllBytes`, that every entry of a lent buffer is a byte, of each call. The other exports write
+-- nothing: they borrow the buffers for reading.
+--     RunBytesShort      number 1: a run leaves every buffer
+--     RunBytesSame       a run that is refused as a whole (1, 2, 11) or at its first record leaves every buffer, byte for byte
+--     RunBytesStopped    a run stopped at a step leaves the bytes that the run over the records before that step leaves
+--     LoadBytesShort     number 1: a load leaves every buffer, except that it zeroes a state lent whole
+--     LoadBytesZeroed    a refused formula leaves the stated bytes 0 and the bytes past them
+use mathlib.Core.Path.{_≡_}
+use mathlib.Core.Bool.{true, false, cond}
+use mathlib.Core.List.{List, _++_}
+use Prim.Native.Nat.{ℕ, suc, _*_, _≤_}
+use lib.IntN.{pos}
+use lib.ListN.{replicate, take, drop}
+use Rattle.dqbf.specs.Limits.{clauseLimit, literalLimit, variableLimit, recordSize}
+use Rattle.tables.specs.Tables.{Tables}
+use Rattle.tables.specs.Spread.{zeroState}
+use Rattle.tables.specs.WellFormed.{long, wellFormed}
+use Rattle.tables.specs.declared.State.{State}
+use Rattle.dqdimacs.specs.Loading.{AfterLoad, loadOf}
+use Rattle.dqdimacs.specs.declared.LoadAnswer.the-variants as Load
+use Rattle.additions.specs.declared.StepAnswer.the-variants as Step
+use Rattle.steps.specs.Steps.{stepOf, runOf}
+use Rattle.steps.specs.Runs.{verdictIn}
+use Rattle.steps.specs.declared.RunAnswer.the-variants as Run
+use Rattle.codec.specs.Bytes.{over}
+use Rattle.buffers.specs.Buffers.{Buffers, buffersOf, stateSize, stateWhole, whole, tablesIn, stateIn}
+use Rattle.results.specs.Results.{loadResult, runResult}
+use Rattle.driver.specs.Calls.{AllBytes, loadBytes, runBytes}
+use Rattle.driver.specs.Statements.Fields.{fields, loadFields, runFields}
+
+-- ---- 1 and 2
+
+-- "1: a table is lent too short"
+abbrev pub ShortSame : Type 0
+ShortSame =
+    (t : Tables) (s : State) (bytes : List ℕ) → long t ≡ false
+    → (loadOf t bytes ≡ record { tables = t; state = zeroState; answer = Load.Refused 0 1 })
+    × (stepOf t s bytes ≡ record { tables = t; state = s; answer = Step.Refused 1 })
+    × (runOf t s bytes ≡ record { tables = t; state = s; answer = Run.Bad (record { 0 = 0 }) 1 })
+
+-- "2: tables not well formed"
+abbrev pub FormlessSame : Type 0
+FormlessSame =
+    (t : Tables) (s : State) (bytes : List ℕ) → long t ≡ true → wellFormed t s ≡ false
+    → (stepOf t s bytes ≡ record { tables = t; state = s; answer = Step.Refused 2 })
+    × (runOf t s bytes ≡ record { tables = t; state = s; answer = Run.Bad (record { 0 = 0 }) 2 })
+
+-- ---- "after a step's refusal tables and state are as before that step"
+
+abbrev pub StepSame : Type 0
+StepSame =
+    (t : Tables) (s : State) (bytes : List ℕ) (number : ℕ) → stepOf t s bytes .answer ≡ Step.Refused number
+    → stepOf t s bytes ≡ record { tables = t; state = s; answer = Step.Refused number }
+
+-- refused as a whole (step 0: 1, 2, and 11 for a list that is too long) or at its first record (step 1)
+abbrev pub RunSame : Type 0
+RunSame =
+    (t : Tables) (s : State) (bytes : List ℕ) (step number : ℕ) → step ≤ 1 → runOf t s bytes .answer ≡ Run.Bad (record { 0 = step }) number
+    → runOf t s bytes ≡ record { tables = t; state = s; answer = Run.Bad (record { 0 = step }) number }
+
+-- Stopped at step k + 1: tables and state are those of the run over the k records before it, which is not refused but tells its verdict, and on these
+-- tables and this state the step is refused with that number.
+abbrev pub RunStopped : Type 0
+RunStopped =
+    (t : Tables) (s : State) (bytes : List ℕ) (k number : ℕ) → runOf t s bytes .answer ≡ Run.Bad (record { 0 = suc k }) number
+    → let stopped = runOf t s bytes in
+    (runOf t s (take (recordSize * k) bytes) ≡ record { tables = stopped .tables; state = stopped .state; answer = verdictIn (stopped .state) })
+    × (stepOf (stopped .tables) (stopped .state) (drop (recordSize * k) bytes) .answer ≡ Step.Refused number)
+
+-- ---- "after 10 to 14 and a formula's 11 the fixed entries and the state are 0"
+
+pub record Zeroed (t : Tables) (x : AfterLoad) : Type 0 where
+  pub literals : x .tables .literals ≡ replicate literalLimit (pos 0) ++ drop literalLimit (t .literals)
+  pub ends : x .tables .ends ≡ replicate clauseLimit 0 ++ drop clauseLimit (t .ends)
+  pub sets : x .tables .sets ≡ replicate variableLimit 0 ++ drop variableLimit (t .sets)
+  pub kinds : x .tables .kinds ≡ replicate variableLimit 0 ++ drop variableLimit (t .kinds)
+  pub state : x .state ≡ zeroState
+
+abbrev pub LoadZeroed : Type 0
+LoadZeroed = (t : Tables) (text : List ℕ) (line number : ℕ) → long t ≡ true → loadOf t text .answer ≡ Load.Refused line number → Zeroed t (loadOf t text)
+
+-- ---- the driver's buffers: "too few bytes in any of them is 1, and nothing lent is changed then, except that a load zeroes a state lent whole"
+
+abbrev pub RunBytesShort : Type 0
+RunBytesShort =
+    (b : Buffers) (records : List ℕ) → whole b ≡ false → runBytes b records ≡ record { buffers = b; result = runResult (Run.Bad (record { 0 = 0 }) 1) }
+
+-- `over front buffer` is `front`, and behind it what stood there
+abbrev pub LoadBytesShort : Type 0
+LoadBytesShort =
+    (b : Buffers) (text : List ℕ) → whole b ≡ false
+    → loadBytes b text
+    ≡ record {
+      buffers = buffersOf (b .literals) (b .ends) (b .sets) (b .kinds) (cond (stateWhole b) (over (replicate stateSize 0) (b .state)) (b .state));
+      result = loadResult (Load.Refused 0 1);
+    }
+
+-- the result tells a refusal at step 0 or 1
+abbrev pub RunBytesSame : Type 0
+RunBytesSame =
+    (b : Buffers) (records : List ℕ) (step number : ℕ) → AllBytes b → step ≤ 1 → fields (runBytes b records .result) ≡ runFields (Run.Bad (record { 0 = step }) number)
+    → runBytes b records .buffers ≡ b
+
+-- the result tells a refusal at step k + 1
+abbrev pub RunBytesStopped : Type 0
+RunBytesStopped =
+    (b : Buffers) (records : List ℕ) (k number : ℕ) → fields (runBytes b records .result) ≡ runFields (Run.Bad (record { 0 = suc k }) number)
+    → let state = runOf (tablesIn b) (stateIn b) records .state in
+    runBytes b (take (recordSize * k) records) ≡ record { buffers = runBytes b records .buffers; result = runResult (verdictIn state) }
+
+-- the bytes of 8,192, 2,048, 512 and 512 entries and of eight counts are 0
+unfoldable pub zeroedBytes : Buffers → Buffers
+zeroedBytes b =
+    buffersOf (over (replicate (2 * literalLimit) 0) (b .literals)) (over (replicate (2 * clauseLimit) 0) (b .ends)) (over (replicate (8 * variableLimit) 0) (b .sets))
+    (over (replicate variableLimit 0) (b .kinds)) (over (replicate stateSize 0) (b .state))
+
+abbrev pub LoadBytesZeroed : Type 0
+LoadBytesZeroed =
+    (b : Buffers) (text : List ℕ) (line number : ℕ) → whole b ≡ true → fields (loadBytes b text .result) ≡ loadFields (Load.Refused line number)
+    → loadBytes b text .buffers ≡ zeroedBytes b
