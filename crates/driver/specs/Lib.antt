@@ -1,2 +1,1 @@
-pub mod Calls
-pub mod Statements
+pub mod Interface

@@ -1,7 +1,7 @@
 // The exported question about the length of a clause.
 ghost use mathlib.Core.Path.{_≡_};
 ghost use Rattle.buffers.specs.Buffers.{buffersOf};
-ghost use Rattle.driver.specs.Calls.{clauseBytes};
+ghost use Rattle.exports.specs.Calls.{clauseBytes};
 use codec::state as state_codec;
 use dqbf::limits::CLAUSE_LIMIT;
 use dqbf::limits::LITERAL_LIMIT;

@@ -1,6 +1,6 @@
 // The number of the interface.
 ghost use mathlib.Core.Path.{_≡_};
-ghost use Rattle.driver.specs.Calls.{interfaceNumber};
+ghost use Rattle.driver.specs.Interface.{interfaceNumber};
 
 const INTERFACE: u32 = 1;
 

@@ -3,7 +3,7 @@ ghost use mathlib.Core.Path.{_≡_};
 ghost use Prim.Native.Nat.{_≤_};
 ghost use lib.ListN.{length};
 ghost use Rattle.buffers.specs.Buffers.{buffersOf};
-ghost use Rattle.driver.specs.Calls.{After, loadBytes, loadWhole};
+ghost use Rattle.exports.specs.Calls.{After, loadBytes, loadWhole};
 use codec::state as state_codec;
 use dqbf::limits::CLAUSE_LIMIT;
 use dqbf::limits::LITERAL_LIMIT;

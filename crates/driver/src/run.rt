@@ -3,7 +3,8 @@ ghost use mathlib.Core.Path.{_≡_};
 ghost use Prim.Native.Nat.{_≤_};
 ghost use lib.ListN.{length};
 ghost use Rattle.buffers.specs.Buffers.{buffersOf};
-ghost use Rattle.driver.specs.Calls.{After, AllBytes, runBytes, runWhole};
+ghost use Rattle.exports.specs.Calls.{After, runBytes, runWhole};
+ghost use Rattle.refusals.specs.Statements.{RunBytesSame};
 use codec::state as state_codec;
 use dqbf::limits::CLAUSE_LIMIT;
 use dqbf::limits::LITERAL_LIMIT;
@@ -70,7 +71,11 @@ pub extern "C" fn kefthrun_run(
           result = r;
         })
         (runBytes (buffersOf (now (literals .entry)) (now (ends .entry)) (now (sets .entry)) (now (kinds .entry)) (now (state .entry))) (now (records .entry))))
-        × AllBytes (buffersOf (now (literals .entry)) (now (ends .entry)) (now (sets .entry)) (now (kinds .entry)) (now (state .entry))) ⌝ }
+        × RunBytesSame (buffersOf (now (literals .entry)) (now (ends .entry)) (now (sets .entry)) (now (kinds .entry)) (now (state .entry)))
+        (record {
+          buffers = buffersOf (now (literals .exit)) (now (ends .exit)) (now (sets .exit)) (now (kinds .exit)) (now (state .exit));
+          result = r;
+        }) ⌝ }
 {
     if !buffers::is_whole(literals, ends, sets, kinds, state) {
         return results::pack(results::BAD, 0, results::TABLE_TOO_SHORT);

@@ -1,7 +1,7 @@
 // The exported show: an exported function returns no reference, so that it tells place and length in the caller's own literals.
 ghost use mathlib.Core.Path.{_≡_};
 ghost use Rattle.buffers.specs.Buffers.{buffersOf};
-ghost use Rattle.driver.specs.Calls.{showBytes};
+ghost use Rattle.exports.specs.Calls.{showBytes};
 use codec::state as state_codec;
 use dqbf::limits::CLAUSE_LIMIT;
 use dqbf::limits::LITERAL_LIMIT;

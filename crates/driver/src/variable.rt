@@ -1,7 +1,7 @@
 // The exported question about kind and set size of a variable.
 ghost use mathlib.Core.Path.{_≡_};
 ghost use Rattle.buffers.specs.Buffers.{buffersOf};
-ghost use Rattle.driver.specs.Calls.{variableBytes};
+ghost use Rattle.exports.specs.Calls.{variableBytes};
 use codec::state as state_codec;
 use dqbf::limits::CLAUSE_LIMIT;
 use dqbf::limits::LITERAL_LIMIT;

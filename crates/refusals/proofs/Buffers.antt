@@ -24,10 +24,10 @@ use Rattle.codec.proofs.Laws.Turns.{literals-length}
 use Rattle.buffers.specs.Buffers.{Buffers, whole, tablesIn, stateIn, written}
 use Rattle.buffers.proofs.Laws.{lent-long}
 use Rattle.results.specs.Results.{packed, field, runResult}
-use Rattle.driver.specs.Calls.{After, AllBytes, loaded, loadShort, loadBytes, ran, runShort, runBytes}
-use Rattle.driver.specs.Statements.Fields.{fields, loadFields, runFields}
-use Rattle.driver.proofs.Fields.{load-tells, run-tells}
-use Rattle.driver.proofs.RoundTrip.{same-bytes}
+use Rattle.exports.specs.Calls.{After, AllBytes, loaded, loadShort, loadBytes, ran, runShort, runBytes}
+use Rattle.exports.specs.Statements.Fields.{fields, loadFields, runFields}
+use Rattle.exports.proofs.Fields.{load-tells, run-tells}
+use Rattle.exports.proofs.RoundTrip.{same-bytes}
 use Rattle.refusals.specs.Statements.{RunBytesShort, LoadBytesShort, RunBytesSame, RunBytesStopped, Zeroed, zeroedBytes, LoadBytesZeroed}
 use Rattle.refusals.proofs.Tables.{run-same, run-stopped, load-zeroed}
 
@@ -69,13 +69,14 @@ module _ (b : Buffers) (records : List ℕ) where
       let same = run-same (tablesIn b) (stateIn b) records step number f (run-answer step number w e) in
       rw (whole-run w, same) (same-bytes b w k)
 
-pub run-bytes-same : RunBytesSame
-unfolding runShort
-run-bytes-same b records step number k f e = by (whole b) refl
+-- what `kefthrun_run` promises of a call
+pub run-bytes-same : (b : Buffers) (records : List ℕ) → AllBytes b → {x : After} → x ≡ runBytes b records → (x ≡ runBytes b records) × RunBytesSame b x
+run-bytes-same b records k {x} is = (is, λ step number f e. ap (λ (y : After). y .buffers) is ∙ by step number f (sym (ap (λ (y : After). fields (y .result)) is) ∙ e) (whole b) refl)
   where
-    by : (c : Bool) → whole b ≡ c → runBytes b records .buffers ≡ b
-    by true w = same-whole b records k step number f w e
-    by false w = ap (λ (x : After). x .buffers) (run-bytes-short b records w)
+    by : (step number : ℕ) → step ≤ 1 → fields (runBytes b records .result) ≡ runFields (Run.Bad (record { 0 = step }) number) → (c : Bool) → whole b ≡ c
+        → runBytes b records .buffers ≡ b
+    by step number f e true w = same-whole b records k step number f w e
+    by step number f e false w = ap (λ (y : After). y .buffers) (run-bytes-short b records w)
 
 pub run-bytes-stopped : RunBytesStopped
 unfolding ran runShort fields runFields runResult packed field

@@ -11,8 +11,8 @@
 --     RunStopped         a run stopped at a step leaves what the run over the records before that step leaves
 --     LoadZeroed         a refused formula leaves zeros over the stated sizes, the entries past them, and a zero state
 -- `loadBytes` and `runBytes` are the outcomes that the contracts of the exports `kefthrun_load` and `kefthrun_run` promise of the driver's buffers; `whole` is
--- the test of number 1. The contract of `kefthrun_run` promises `AllBytes`, that every entry of a lent buffer is a byte, of each call. The other exports write
--- nothing: they borrow the buffers for reading.
+-- the test of number 1. `RunBytesSame` rests on every entry of a lent buffer being a byte. The prover knows that of each call, so the contract of `kefthrun_run`
+-- promises `RunBytesSame` itself. The other exports write nothing: they borrow the buffers for reading.
 --     RunBytesShort      number 1: a run leaves every buffer
 --     RunBytesSame       a run that is refused as a whole (1, 2, 11) or at its first record leaves every buffer, byte for byte
 --     RunBytesStopped    a run stopped at a step leaves the bytes that the run over the records before that step leaves
@@ -38,8 +38,8 @@ use Rattle.steps.specs.declared.RunAnswer.the-variants as Run
 use Rattle.codec.specs.Bytes.{over}
 use Rattle.buffers.specs.Buffers.{Buffers, buffersOf, stateSize, stateWhole, whole, tablesIn, stateIn}
 use Rattle.results.specs.Results.{loadResult, runResult}
-use Rattle.driver.specs.Calls.{AllBytes, loadBytes, runBytes}
-use Rattle.driver.specs.Statements.Fields.{fields, loadFields, runFields}
+use Rattle.exports.specs.Calls.{After, loadBytes, runBytes}
+use Rattle.exports.specs.Statements.Fields.{fields, loadFields, runFields}
 
 -- ---- 1 and 2
 
@@ -109,10 +109,8 @@ LoadBytesShort =
     }
 
 -- the result tells a refusal at step 0 or 1
-abbrev pub RunBytesSame : Type 0
-RunBytesSame =
-    (b : Buffers) (records : List ℕ) (step number : ℕ) → AllBytes b → step ≤ 1 → fields (runBytes b records .result) ≡ runFields (Run.Bad (record { 0 = step }) number)
-    → runBytes b records .buffers ≡ b
+abbrev pub RunBytesSame : Buffers → After → Type 0
+RunBytesSame b x = (step number : ℕ) → step ≤ 1 → fields (x .result) ≡ runFields (Run.Bad (record { 0 = step }) number) → x .buffers ≡ b
 
 -- the result tells a refusal at step k + 1
 abbrev pub RunBytesStopped : Type 0

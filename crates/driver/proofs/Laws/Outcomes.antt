@@ -29,7 +29,7 @@ use Rattle.buffers.specs.Buffers.{Buffers, buffersOf, stateWhole, whole, tables
 use Rattle.results.specs.Results.{packed, loadResult, runResult, clauseResult, showResult, stretchResult, variableResult}
 use Rattle.buffers.proofs.Laws.{Sizes, whole-sizes}
 use Rattle.results.proofs.Laws.{stretch-shown}
-use Rattle.driver.specs.Calls.{After, loaded, loadShort, loadBytes, ran, runShort, runBytes, showBytes, clauseBytes, variableBytes}
+use Rattle.exports.specs.Calls.{After, loaded, loadShort, loadBytes, ran, runShort, runBytes, showBytes, clauseBytes, variableBytes}
 
 not-true : (b : Bool) → not b ≡ true → b ≡ false
 not-true true h = sym h

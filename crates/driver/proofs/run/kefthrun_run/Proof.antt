@@ -2,6 +2,7 @@
 use borrow.Author.Needs.{needs}
 use native.Mathlib.Omega.{arith}
 use Rattle.buffers.specs.Buffers.{buffersOf}
+use Rattle.refusals.proofs.Buffers.{run-bytes-same}
 use Rattle.driver.proofs.Laws.Outcomes.{run-short, run-on, sizes}
 use Rattle.driver.proofs.run.kefthrun_run.Statement.{statement}
 use Rattle.driver.proofs.run.kefthrun_run.Tie as tie
@@ -29,16 +30,16 @@ same-length-5 c = search needs
 
 returns : tie.Need-returns
 returns c =
-    let a = c .before .before .before .before .before .before .before .before .before .before .before .before .before .before .args in (
-      run-short (buffersOf (a .literals .now) (a .ends .now) (a .sets .now) (a .kinds .now) (a .state .now)) (a .records .now) (c .before .before .is-whole .ensures) (c .before .if1 .taken) (c .pack .ensures),
-      record {
-        literals = λ i. omega (arith, c .before .before .before .before .before .before .before .before .before .before .before .before .slice-known .given i);
-        ends = λ i. omega (arith, c .before .before .before .before .before .before .before .before .before .before .before .slice-known2 .given i);
-        sets = λ i. omega (arith, c .before .before .before .before .before .before .before .before .before .before .slice-known3 .given i);
-        kinds = λ i. omega (arith, c .before .before .before .before .before .before .before .before .before .slice-known4 .given i);
-        state = λ i. omega (arith, c .before .before .before .before .before .before .before .before .slice-known5 .given i);
-      },
-    )
+    let s = c .before .before .before .before .before .before .before .before in
+    let a = s .before .before .before .before .before .before .args in
+    let b = buffersOf (a .literals .now) (a .ends .now) (a .sets .now) (a .kinds .now) (a .state .now) in
+    run-bytes-same b (a .records .now) (record {
+      literals = λ i. omega (arith, s .before .before .before .before .slice-known .given i);
+      ends = λ i. omega (arith, s .before .before .before .slice-known2 .given i);
+      sets = λ i. omega (arith, s .before .before .slice-known3 .given i);
+      kinds = λ i. omega (arith, s .before .slice-known4 .given i);
+      state = λ i. omega (arith, s .slice-known5 .given i);
+    }) (run-short b (a .records .now) (c .before .before .is-whole .ensures) (c .before .if1 .taken) (c .pack .ensures))
 
 run-whole-requires : tie.Need-run-whole-requires
 run-whole-requires c κs =
@@ -63,16 +64,17 @@ same-length-10 c = search needs
 
 returns-2 : tie.Need-returns-2
 returns-2 c =
-    let a = c .before .before .before .before .before .before .before .before .before .before .before .before .before .before .before .before .before .before .before .before .before .before .before .before .before .before .before .before .before .args in (
-      run-on (buffersOf (a .literals .now) (a .ends .now) (a .sets .now) (a .kinds .now) (a .state .now)) (a .records .now) (c .before .before .before .before .before .before .before .before .before .before .before .before .before .before .before .before .before .is-whole .ensures) (c .before .before .before .before .before .before .before .before .before .before .before .before .before .before .before .before .if1 .left) (c .before .before .before .before .before .before .before .before .before .before .run-whole .ensures),
-      record {
-        literals = λ i. omega (arith, c .before .before .before .before .before .before .before .before .before .before .before .before .before .before .before .before .before .before .before .before .before .before .before .before .before .before .before .slice-known .given i);
-        ends = λ i. omega (arith, c .before .before .before .before .before .before .before .before .before .before .before .before .before .before .before .before .before .before .before .before .before .before .before .before .before .before .slice-known2 .given i);
-        sets = λ i. omega (arith, c .before .before .before .before .before .before .before .before .before .before .before .before .before .before .before .before .before .before .before .before .before .before .before .before .before .slice-known3 .given i);
-        kinds = λ i. omega (arith, c .before .before .before .before .before .before .before .before .before .before .before .before .before .before .before .before .before .before .before .before .before .before .before .before .slice-known4 .given i);
-        state = λ i. omega (arith, c .before .before .before .before .before .before .before .before .before .before .before .before .before .before .before .before .before .before .before .before .before .before .before .slice-known5 .given i);
-      },
-    )
+    let w = c .before .before .before .before .before .before .before .before .before .before in
+    let s = w .before .before .before .before .before .before .before .before .before .before .before .before .before in
+    let a = s .before .before .before .before .before .before .args in
+    let b = buffersOf (a .literals .now) (a .ends .now) (a .sets .now) (a .kinds .now) (a .state .now) in
+    run-bytes-same b (a .records .now) (record {
+      literals = λ i. omega (arith, s .before .before .before .before .slice-known .given i);
+      ends = λ i. omega (arith, s .before .before .before .slice-known2 .given i);
+      sets = λ i. omega (arith, s .before .before .slice-known3 .given i);
+      kinds = λ i. omega (arith, s .before .slice-known4 .given i);
+      state = λ i. omega (arith, s .slice-known5 .given i);
+    }) (run-on b (a .records .now) (w .before .before .before .before .before .before .before .is-whole .ensures) (w .before .before .before .before .before .before .if1 .left) (w .run-whole .ensures))
 
 pub kefthrun-run-spec : {M : Type 1} → statement M
 kefthrun-run-spec =

@@ -32,11 +32,11 @@ use Rattle.steps.specs.Statements.Refutation as Lending
 use Rattle.steps.proofs.Refutation as Lent-tables
 use Rattle.buffers.specs.Buffers.{Buffers, whole, tablesIn, stateIn, written}
 use Rattle.results.specs.Results.{field, loadResult, runResult}
-use Rattle.driver.specs.Calls.{After, loaded, loadShort, loadBytes, ran, runBytes}
-use Rattle.driver.specs.Statements.Refutation.{Call, runCall, otherCall, next, runResults, Refutation}
+use Rattle.exports.specs.Calls.{After, loaded, loadShort, loadBytes, ran, runBytes}
+use Rattle.exports.specs.Statements.Refutation.{Call, runCall, otherCall, next, runResults, Refutation}
 use Rattle.buffers.proofs.Laws.{lent-long}
 use Rattle.results.proofs.Laws.{case-is}
-use Rattle.driver.proofs.RoundTrip.{read-back}
+use Rattle.exports.proofs.RoundTrip.{read-back}
 
 -- ---- results
 

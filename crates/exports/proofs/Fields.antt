@@ -27,11 +27,11 @@ use Rattle.dqdimacs.specs.Loading.{loadAnswer, loadedOn, loadOf}
 use Rattle.steps.specs.Steps.{runAnswer, ranOn, runRefused, runOf}
 use Rattle.buffers.specs.Buffers.{Buffers, whole, tablesIn, stateIn}
 use Rattle.results.specs.Results.{packed, loadResult, runResult, clauseResult, variableResult}
-use Rattle.driver.specs.Calls.{loaded, loadBytes, ran, runBytes, clauseBytes, variableBytes}
-use Rattle.driver.specs.Statements.Fields.{fields, loadFields, runFields, clauseFields, variableFields, LoadTells, RunTells, ClauseTells, VariableTells}
+use Rattle.exports.specs.Calls.{loaded, loadBytes, ran, runBytes, clauseBytes, variableBytes}
+use Rattle.exports.specs.Statements.Fields.{fields, loadFields, runFields, clauseFields, variableFields, LoadTells, RunTells, ClauseTells, VariableTells}
 use Rattle.buffers.proofs.Laws.{lent-long}
 use Rattle.results.proofs.Laws.{case-is, first-is, second-is}
-use Rattle.driver.proofs.Laws.Short.{ShortVerdict, run-short, ShortLoaded, load-short, length-short, kind-short, size-short}
+use Rattle.exports.proofs.Laws.Short.{ShortVerdict, run-short, ShortLoaded, load-short, length-short, kind-short, size-short}
 
 pub fields-are : (k a b : ℕ) → k < 65536 → a < 65536 → b < 65536 → fields (packed k a b) ≡ k ∷ a ∷ b ∷ []
 unfolding fields

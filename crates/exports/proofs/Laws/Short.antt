@@ -25,7 +25,7 @@ use Rattle.dqbf.proofs.SetSize.{set-size}
 use Rattle.dqbf.proofs.StepsKeepValid.{call-keeps}
 use Rattle.tables.specs.Spread.{stateOf}
 use Rattle.codec.specs.State.{counts}
-use Rattle.driver.proofs.Laws.Fits.{each-append, each-member, counts-small}
+use Rattle.exports.proofs.Laws.Fits.{each-append, each-member, counts-small}
 
 abbrev pub Short : ℕ → Type 0
 Short n = n < 65536

@@ -21,8 +21,8 @@ use Rattle.codec.proofs.Laws.State.{state-length, state-back}
 use Rattle.codec.proofs.Laws.Turns.{literals-length}
 use Rattle.codec.proofs.Laws.RoundTrip.{literal-bytes-length, table-back, table-same, literals-back, literals-same, state-same}
 use Rattle.buffers.specs.Buffers.{Buffers, whole, tablesIn, stateIn, written}
-use Rattle.driver.specs.Statements.RoundTrip.{SameBytes, ReadBack}
-use Rattle.driver.proofs.Laws.Fits.{literals-small, ends-small, sets-small, counts-small}
+use Rattle.exports.specs.Statements.RoundTrip.{SameBytes, ReadBack}
+use Rattle.exports.proofs.Laws.Fits.{literals-small, ends-small, sets-small, counts-small}
 use Rattle.buffers.proofs.Laws.{Sizes, whole-sizes, sizes-whole}
 
 pub same-bytes : SameBytes

@@ -12,8 +12,8 @@ use Rattle.tables.specs.Tables.{Tables, stretch}
 use Rattle.questions.specs.Answers.{shownStart, shownClause}
 use Rattle.buffers.specs.Buffers.{Buffers, whole, tablesIn, stateIn}
 use Rattle.results.specs.Results.{field}
-use Rattle.driver.specs.Calls.{showBytes, clauseBytes}
-use Rattle.driver.specs.Statements.Fields.{fields}
+use Rattle.exports.specs.Calls.{showBytes, clauseBytes}
+use Rattle.exports.specs.Statements.Fields.{fields}
 
 -- a result with place and length of the shown clause in the literals
 pub record Tells (t : Tables) (s : State) (c r : ℕ) : Type 0 where

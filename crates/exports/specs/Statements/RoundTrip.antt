@@ -6,10 +6,10 @@ use Rattle.dqbf.specs.Model.{Model}
 use Rattle.dqbf.specs.Valid.{Valid}
 use Rattle.tables.specs.Spread.{spread, stateOf}
 use Rattle.buffers.specs.Buffers.{Buffers, whole, tablesIn, stateIn, written}
-use Rattle.driver.specs.Calls.{AllBytes}
+use Rattle.exports.specs.Calls.{AllBytes}
 
--- Tables and state that are written back as they were read leave the buffers as they were. That entries are bytes is promised of every lent buffer
--- (`AllBytes` in the contract of `kefthrun_run`).
+-- Tables and state that are written back as they were read leave the buffers as they were. Of a lent buffer the prover knows that its entries are bytes, so
+-- the contract of `kefthrun_run` promises what follows of this for refused runs with no such premise (`RunBytesSame` in the crate `refusals`).
 abbrev pub SameBytes : Type 0
 SameBytes = (b : Buffers) → whole b ≡ true → AllBytes b → written b (tablesIn b) (stateIn b) ≡ b
 

@@ -12,7 +12,7 @@ use Rattle.dqbf.specs.Meaning.{Refuted}
 use Rattle.dqbf.specs.Reading.{load, accepted}
 use Rattle.buffers.specs.Buffers.{Buffers}
 use Rattle.results.specs.Results.{field}
-use Rattle.driver.specs.Calls.{loadBytes, runBytes}
+use Rattle.exports.specs.Calls.{loadBytes, runBytes}
 
 -- a run with any bytes; a call that writes nothing
 pub data Call : Type 0 where

@@ -1,7 +1,7 @@
 -- The exported calls over the driver's buffers: decode, the definition of the call over tables, encode (document 01, "The solver's driver is C++").
 -- "too few bytes in any of them is 1, and nothing lent is changed then, except that a load zeroes a state lent whole."
 -- Offers `AllBytes`, `After`, `loadBytes`, `runBytes`, and the results of the calls that write nothing: `showBytes`, `clauseBytes`, `variableBytes`; `loadWhole` and `runWhole`
--- are those over buffers that are long enough. `interfaceNumber` is the number of this interface.
+-- are those over buffers that are long enough.
 use mathlib.Core.Bool.{cond}
 use mathlib.Core.List.{List, []}
 use Prim.Native.Nat.{ℕ, _<_}
@@ -16,10 +16,6 @@ use Rattle.steps.specs.declared.RunAnswer.the-variants as Run
 use Rattle.codec.specs.Bytes.{over}
 use Rattle.buffers.specs.Buffers.{Buffers, buffersOf, stateSize, stateWhole, whole, tablesIn, stateIn, written}
 use Rattle.results.specs.Results.{loadResult, runResult, clauseResult, showResult, variableResult}
-
--- One higher with each change of a function, a buffer's size or a result: KEFTHRUN_INTERFACE of include/kefthrun.h is the same.
-abbrev pub interfaceNumber : ℕ
-interfaceNumber = 1
 
 -- a list of bytes; the place past the end counts as 0
 abbrev pub Bytes : List ℕ → Type 0

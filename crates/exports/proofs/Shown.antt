@@ -25,12 +25,12 @@ use Rattle.questions.proofs.Laws.Outcomes.{clause-zero, clause-past}
 use Rattle.codec.proofs.Laws.Turns.{literals-length}
 use Rattle.buffers.specs.Buffers.{Buffers, whole, tablesIn, stateIn}
 use Rattle.results.specs.Results.{field, clauseResult, showResult, stretchResult}
-use Rattle.driver.specs.Calls.{showBytes, clauseBytes}
-use Rattle.driver.specs.Statements.Fields.{fields}
-use Rattle.driver.specs.Statements.Shown.{Tells, ShowsTheClause, ShowsTheLength, ShowsNothing}
+use Rattle.exports.specs.Calls.{showBytes, clauseBytes}
+use Rattle.exports.specs.Statements.Fields.{fields}
+use Rattle.exports.specs.Statements.Shown.{Tells, ShowsTheClause, ShowsTheLength, ShowsNothing}
 use Rattle.buffers.proofs.Laws.{lent-long}
 use Rattle.results.proofs.Laws.{case-is, first-cut, second-cut, stretch-shown}
-use Rattle.driver.proofs.Fields.{fields-are}
+use Rattle.exports.proofs.Fields.{fields-are}
 
 -- ---- place and length
 

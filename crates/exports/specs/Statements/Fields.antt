@@ -13,7 +13,7 @@ use Rattle.steps.specs.declared.RunAnswer.{RunAnswer}
 use Rattle.steps.specs.declared.RunAnswer.the-variants as Run
 use Rattle.buffers.specs.Buffers.{Buffers, whole, tablesIn, stateIn}
 use Rattle.results.specs.Results.{field}
-use Rattle.driver.specs.Calls.{loadBytes, runBytes, clauseBytes, variableBytes}
+use Rattle.exports.specs.Calls.{loadBytes, runBytes, clauseBytes, variableBytes}
 
 unfoldable pub fields : ℕ → List ℕ
 fields r = field 0 r ∷ field 1 r ∷ field 2 r ∷ []
