@@ -21,51 +21,39 @@ Inv-loop clause mask sets n count₀ united₀ rest₀ at₀ count united rest a
 abbrev μ-loop : tie.MeasureT-loop
 μ-loop clause mask sets n count₀ united₀ rest₀ at₀ count united rest at = rest
 
--- src/lib.rt:63:18
 cast-at : tie.Need-cast-at Inv-loop μ-loop
 cast-at c = omega (arith, trailing-le 32 (c .before .args .mask))
 
--- src/lib.rt:64:5
 loop-holds : tie.Need-loop-holds Inv-loop μ-loop
 loop-holds c = (refl, pick-few (c .before .args .mask) (c .before .args .clause .now), measuring-start _ _)
 
--- src/lib.rt:65:17
 mul-l : tie.Need-mul-l Inv-loop μ-loop
 mul-l c = search needs
 
--- src/lib.rt:65:17
 shared-slice-copy-out-l : tie.Need-shared-slice-copy-out-l Inv-loop μ-loop
 shared-slice-copy-out-l c = search needs
 
--- src/lib.rt:66:33
 set-of-requires : tie.Need-set-of-requires Inv-loop μ-loop
 set-of-requires c κs = set-there (c .before .before .before .before .args .sets .now) (c .before .before .before .before .pre .0) (c .before .before .loop .at) (omega arith) (c .l .given)
 
--- src/lib.rt:66:9
 union-requires : tie.Need-union-requires Inv-loop μ-loop
 union-requires c κs = search needs
 
--- src/lib.rt:67:9
 add-count : tie.Need-add-count Inv-loop μ-loop
 add-count c = omega (arith, c .before .before .before .before .loop .inv .2 .width)
 
--- src/lib.rt:68:24
 sub-rest : tie.Need-sub-rest Inv-loop μ-loop
 sub-rest c = let some = lowest-there (c .before .before .before .before .before .before .args .clause .now) (c .before .before .before .before .loop .rest) (c .before .before .before .before .loop .at) (c .before .before .before .before .before .before .pre .1) (c .before .before .before .before .loop .inv .0) (omega arith) in search needs
 
--- src/lib.rt:69:14
 cast-at-2 : tie.Need-cast-at-2 Inv-loop μ-loop
 cast-at-2 c = omega (arith, trailing-le 32 (bitAnd (c .before .before .before .before .loop .rest) (c .before .before .before .before .loop .rest - 1)))
 
--- src/lib.rt:64:5
 loop-less : tie.Need-loop-less Inv-loop μ-loop
 loop-less c = let some = lowest-there (c .before .before .before .before .before .before .args .clause .now) (c .before .before .before .before .loop .rest) (c .before .before .before .before .loop .at) (c .before .before .before .before .before .before .pre .1) (c .before .before .before .before .loop .inv .0) (omega arith) in omega (arith, and-le-r (c .before .before .before .before .loop .rest) (c .before .before .before .before .loop .rest - 1))
 
--- src/lib.rt:64:5
 loop-again : tie.Need-loop-again Inv-loop μ-loop
 loop-again c = (refl, c .before .before .before .before .loop .inv .1, measuring-more _ (c .before .before .before .before .loop .inv .2) (lowest-picked (c .before .before .before .before .before .before .args .clause .now) (c .before .before .before .before .loop .rest) (c .before .before .before .before .loop .at) (c .before .before .before .before .before .before .pre .1) (c .before .before .before .before .loop .inv .0) (omega arith)) (c .before .before .l .given) (c .before .set-of .ensures) (c .union .ensures))
 
--- src/lib.rt:55:1
 returns : tie.Need-returns Inv-loop μ-loop
 returns c = measuring-done _ (c .before .loop .inv .2) (none-picked (c .before .before .before .args .clause .now) (c .before .loop .rest) (c .before .loop .at) (c .before .before .before .pre .1) (c .before .loop .inv .0) (omega arith))
 

@@ -13,43 +13,33 @@ use Rattle.clause_sets.proofs.set_without.Lts as lts
 use Rattle.clause_sets.proofs.clause_set.Reads as clause-set-reads
 use Rattle.dqbf.proofs.sets.union.Reads as union-reads
 
--- src/lib.rt:42:16
 add-next : tie.Need-add-next
 add-next c = search needs
 
--- src/lib.rt:43:28
 slice-aggregate-clause-set : tie.Need-slice-aggregate-clause-set
 slice-aggregate-clause-set c = sym (length-take-le (c .before .before .args .place) (c .before .before .args .clause .now) (omega arith))
 
--- src/lib.rt:43:9
 clause-set-requires : tie.Need-clause-set-requires
 clause-set-requires c κs = front-in-use (c .before .before .args .sets .now) (c .before .before .pre .0) (c .before .before .args .place)
 
--- src/lib.rt:44:36
 mul-clause-set : tie.Need-mul-clause-set
 mul-clause-set c = search needs
 
--- src/lib.rt:44:36
 sub-clause-set : tie.Need-sub-clause-set
 sub-clause-set c = search needs
 
--- src/lib.rt:44:36
 part-clause-set-start : tie.Need-part-clause-set-start
 part-clause-set-start c = search needs
 
--- src/lib.rt:44:36
 part-clause-set-end : tie.Need-part-clause-set-end
 part-clause-set-end c = search needs
 
--- src/lib.rt:44:25
 clause-set-requires-2 : tie.Need-clause-set-requires-2
 clause-set-requires-2 c κs = rw (tail-lent (c .before .before .before .before .args .clause .now) (c .before .before .before .before .args .place + 1)) (back-in-use (c .before .before .before .before .args .sets .now) (c .before .before .before .before .pre .0) (c .before .before .before .before .args .place + 1))
 
--- src/lib.rt:44:5
 union-requires : tie.Need-union-requires
 union-requires c κs = search needs
 
--- src/lib.rt:38:1
 returns : tie.Need-returns
 returns c =
     let back = rw (tail-lent (c .before .before .before .before .before .before .args .clause .now) (c .before .before .before .before .before .before .args .place + 1)) at (c .before .clause-set2 .ensures) in

@@ -5,11 +5,9 @@ use Rattle.dqdimacs.proofs.refused.Reads as reads
 use Rattle.dqdimacs.proofs.refused.Lts as lts
 use Rattle.texts.proofs.lines.empty_state.Reads as empty-state-reads
 
--- src/lib.rt:35:9
 empty-state-requires : tie.Need-empty-state-requires
 empty-state-requires c κs = search needs
 
--- src/lib.rt:32:1
 returns : tie.Need-returns
 returns c = rw (c .empty-state .ensures)
 

@@ -21,86 +21,66 @@ Inv-loop text numbers₀ at₀ t6 numbers at = (at ≤ length text) × (length n
 abbrev μ-loop : tie.MeasureT-loop
 μ-loop text numbers₀ at₀ t6 numbers at = length text - at
 
--- src/main.rt:120:5
 loop-holds : tie.Need-loop-holds Inv-loop μ-loop
 loop-holds c = (omega arith, refl)
 
--- src/main.rt:121:49
 sub-line-length : tie.Need-sub-line-length Inv-loop μ-loop
 sub-line-length c = omega arith
 
--- src/main.rt:121:49
 part-line-length-start : tie.Need-part-line-length-start Inv-loop μ-loop
 part-line-length-start c = omega arith
 
--- src/main.rt:121:49
 part-line-length-end : tie.Need-part-line-length-end Inv-loop μ-loop
 part-line-length-end c = omega arith
 
--- src/main.rt:121:24
 line-length-requires : tie.Need-line-length-requires Inv-loop μ-loop
 line-length-requires c κs = search needs
 
--- src/main.rt:121:19
 add-end : tie.Need-add-end Inv-loop μ-loop
 add-end c = omega (arith, line-at-inside (c .before .before .before .before .before .before .args .text .now) (c .before .before .before .loop .at) (c .line-length .result) (omega arith) (c .line-length .ensures))
 
--- src/main.rt:123:30
 slice-aggregate-write-all : tie.Need-slice-aggregate-write-all Inv-loop μ-loop
 slice-aggregate-write-all c = search needs
 
--- src/main.rt:123:13
 write-all-requires : tie.Need-write-all-requires Inv-loop μ-loop
 write-all-requires c κs = search needs
 
--- src/main.rt:124:13
 same-length : tie.Need-same-length Inv-loop μ-loop
 same-length c = c .before .before .before .before .before .before .loop .inv .1
 
--- src/main.rt:124:13
 returns : tie.Need-returns Inv-loop μ-loop
 returns c = search needs
 
--- src/main.rt:126:39
 sub-form : tie.Need-sub-form Inv-loop μ-loop
 sub-form c = omega arith
 
--- src/main.rt:126:39
 part-form-start : tie.Need-part-form-start Inv-loop μ-loop
 part-form-start c = omega arith
 
--- src/main.rt:126:39
 part-form-end : tie.Need-part-form-end Inv-loop μ-loop
 part-form-end c = omega (arith, line-at-inside (c .before .before .before .before .before .before .before .args .text .now) (c .before .before .before .before .loop .at) (c .before .line-length .result) (omega arith) (c .before .line-length .ensures))
 
--- src/main.rt:126:13
 form-requires : tie.Need-form-requires Inv-loop μ-loop
 form-requires c κs =
     let h = line-at-inside (c .before .before .before .before .before .before .before .before .before .args .text .now) (c .before .before .before .before .before .before .loop .at) (c .before .before .before .line-length .result) (omega arith) (c .before .before .before .line-length .ensures) in
     let p = part-length (c .before .before .before .before .before .before .before .before .before .args .text .now) (c .before .before .before .before .before .before .loop .at) (c .before .before .before .before .before .before .loop .at + c .before .before .before .line-length .result) (omega arith) h in
     omega arith
 
--- src/main.rt:127:9
 write-shape-requires : tie.Need-write-shape-requires Inv-loop μ-loop
 write-shape-requires c κs = counted _ _ _ (c .before .before .before .form .ensures)
 
--- src/main.rt:128:14
 add-at : tie.Need-add-at Inv-loop μ-loop
 add-at c = omega (arith, line-at-inside (c .before .before .before .before .before .before .before .before .before .before .before .before .before .before .args .text .now) (c .before .before .before .before .before .before .before .before .before .before .before .loop .at) (c .before .before .before .before .before .before .before .before .line-length .result) (omega arith) (c .before .before .before .before .before .before .before .before .line-length .ensures))
 
--- src/main.rt:120:5
 loop-less : tie.Need-loop-less Inv-loop μ-loop
 loop-less c = omega arith
 
--- src/main.rt:120:5
 loop-again : tie.Need-loop-again Inv-loop μ-loop
 loop-again c = (omega (arith, line-at-inside (c .before .before .before .before .before .before .before .before .before .before .before .before .before .before .args .text .now) (c .before .before .before .before .before .before .before .before .before .before .before .loop .at) (c .before .before .before .before .before .before .before .before .line-length .result) (omega arith) (c .before .before .before .before .before .before .before .before .line-length .ensures)), c .before .before .before .before .form .kept .1 .0 ∙ c .before .before .before .before .before .before .before .before .before .before .before .loop .inv .1)
 
--- src/main.rt:116:1
 same-length-2 : tie.Need-same-length-2 Inv-loop μ-loop
 same-length-2 c = c .before .loop .inv .1
 
--- src/main.rt:116:1
 returns-2 : tie.Need-returns-2 Inv-loop μ-loop
 returns-2 c = search needs
 

@@ -13,35 +13,27 @@ Inv-loop ranks count i₀ i = i ≤ count
 abbrev μ-loop : tie.MeasureT-loop
 μ-loop ranks count i₀ i = count - i
 
--- src/main.rt:42:5
 loop-holds : tie.Need-loop-holds Inv-loop μ-loop
 loop-holds c = omega arith
 
--- src/main.rt:43:20
 mul-write-rank : tie.Need-mul-write-rank Inv-loop μ-loop
 mul-write-rank c = omega arith
 
--- src/main.rt:43:20
 shared-slice-read-write-rank : tie.Need-shared-slice-read-write-rank Inv-loop μ-loop
 shared-slice-read-write-rank c = omega arith
 
--- src/main.rt:43:9
 write-rank-requires : tie.Need-write-rank-requires Inv-loop μ-loop
 write-rank-requires c κs = search needs
 
--- src/main.rt:44:9
 add-i : tie.Need-add-i Inv-loop μ-loop
 add-i c = omega arith
 
--- src/main.rt:42:5
 loop-less : tie.Need-loop-less Inv-loop μ-loop
 loop-less c = omega arith
 
--- src/main.rt:42:5
 loop-again : tie.Need-loop-again Inv-loop μ-loop
 loop-again c = omega arith
 
--- src/main.rt:38:1
 returns : tie.Need-returns Inv-loop μ-loop
 returns c = search needs
 

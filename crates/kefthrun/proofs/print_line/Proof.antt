@@ -9,54 +9,42 @@ use Rattle.kefthrun.proofs.print_line.Lts as lts
 use Rattle.io.proofs.write_all.Reads as write-all-reads
 use Rattle.verdict.proofs.judge.judge.Reads as judge-reads
 
--- src/main.rt:50:9
 slice-aggregate-judge : tie.Need-slice-aggregate-judge
 slice-aggregate-judge c = search needs
 
--- src/main.rt:51:9
 slice-aggregate-judge-2 : tie.Need-slice-aggregate-judge-2
 slice-aggregate-judge-2 c = search needs
 
--- src/main.rt:52:9
 slice-aggregate-judge-3 : tie.Need-slice-aggregate-judge-3
 slice-aggregate-judge-3 c = search needs
 
--- src/main.rt:53:9
 slice-aggregate-judge-4 : tie.Need-slice-aggregate-judge-4
 slice-aggregate-judge-4 c = search needs
 
--- src/main.rt:54:9
 slice-aggregate-judge-5 : tie.Need-slice-aggregate-judge-5
 slice-aggregate-judge-5 c = search needs
 
--- src/main.rt:47:9
 judge-requires : tie.Need-judge-requires
 judge-requires c κs = search needs
 
--- src/main.rt:56:27
 enum-known-written : tie.Need-enum-known-written
 enum-known-written c = search needs
 
--- src/main.rt:57:38
 array-share-prefix-out : tie.Need-array-share-prefix-out
 array-share-prefix-out c = written-inside _ _ _ (c .before .before .before .before .before .before .before .before .judge .ensures .0) (c .before .before .before .before .before .before .before .before .judge .ensures .1) (c .before .written .given .1)
 
--- src/main.rt:57:38
 slice-aggregate-write-all : tie.Need-slice-aggregate-write-all
 slice-aggregate-write-all c = sym (length-take-le _ _ (written-inside _ _ _ (c .before .before .before .before .before .before .before .before .before .judge .ensures .0) (c .before .before .before .before .before .before .before .before .before .judge .ensures .1) (c .before .before .written .given .1)))
 
--- src/main.rt:57:9
 write-all-requires : tie.Need-write-all-requires
 write-all-requires c κs = search needs
 
 enum-told : tie.Need-enum-told
 enum-told c = search needs
 
--- src/main.rt:41:1
 returns : tie.Need-returns
 returns c = search needs
 
--- src/main.rt:41:1
 returns-2 : tie.Need-returns-2
 returns-2 c = search needs
 

@@ -14,19 +14,15 @@ use Rattle.tables.proofs.formed.first_refusal.Reads as first-refusal-reads
 abbrev lent : (c : tie.After-first-refusal) → Tables
 lent c = let a = c .before .before .before .before .before .args in tablesOf (a .literals .now) (a .ends .now) (a .sets .now) (a .kinds .now)
 
--- src/lib.rt:36:9
 slice-aggregate-nothing : tie.Need-slice-aggregate-nothing
 slice-aggregate-nothing c = search needs
 
--- src/lib.rt:37:8
 first-refusal-requires : tie.Need-first-refusal-requires
 first-refusal-requires c κs = search needs
 
--- src/lib.rt:38:9
 returns : tie.Need-returns
 returns c = shown-refused (lent (c .before)) _ _ (c .before .first-refusal .ensures) (c .if1 .taken) _ _ refl refl
 
--- src/lib.rt:42:9
 returns-2 : tie.Need-returns-2
 returns-2 c =
     let at-if1 = c .before .before .before in
@@ -34,7 +30,6 @@ returns-2 c =
     let told = at-first-refusal .first-refusal .ensures in
     shown-unknown (lent (at-first-refusal)) _ _ told (at-if1 .if1 .left) (clause-zero (lent (at-first-refusal)) _ _ told (at-if1 .if1 .left) (c .if2 .taken)) _ _ refl refl
 
--- src/lib.rt:45:9
 returns-3 : tie.Need-returns-3
 returns-3 c =
     let at-if1 = c .before .before .before .before .before .before in
@@ -42,7 +37,6 @@ returns-3 c =
     let told = at-first-refusal .first-refusal .ensures in
     shown-unknown (lent (at-first-refusal)) _ _ told (at-if1 .if1 .left) (clause-past (lent (at-first-refusal)) _ _ told (at-if1 .if1 .left) (c .if3 .taken)) _ _ refl refl
 
--- src/lib.rt:47:9
 clause-range-requires : tie.Need-clause-range-requires
 clause-range-requires c κs =
     let at-if2 = c .before .before .before in
@@ -50,7 +44,6 @@ clause-range-requires c κs =
     let at-first-refusal = at-if1 .before in
     range-asks (lent (at-first-refusal)) _ _ (at-first-refusal .first-refusal .ensures) (at-if1 .if1 .left) (at-if2 .if2 .left) (c .if3 .left)
 
--- src/lib.rt:50:5
 mul-result : tie.Need-mul-result
 mul-result c =
     let at-if3 = c .before in
@@ -62,7 +55,6 @@ mul-result c =
     let ordered = range-ordered (lent (at-first-refusal)) _ _ told (at-if1 .if1 .left) (at-if2 .if2 .left) (at-if3 .if3 .left) _ _ (c .clause-range .ensures .0) (c .clause-range .ensures .1) in
     omega (arith, ordered, range-inside (lent (at-first-refusal)) _ _ told (at-if1 .if1 .left) (at-if2 .if2 .left) (at-if3 .if3 .left) _ _ (c .clause-range .ensures .0) (c .clause-range .ensures .1), start .good .0 .1)
 
--- src/lib.rt:50:5
 sub-result : tie.Need-sub-result
 sub-result c =
     let at-if3 = c .before in
@@ -71,7 +63,6 @@ sub-result c =
     let at-first-refusal = at-if1 .before in
     range-ordered (lent (at-first-refusal)) _ _ (at-first-refusal .first-refusal .ensures) (at-if1 .if1 .left) (at-if2 .if2 .left) (at-if3 .if3 .left) _ _ (c .clause-range .ensures .0) (c .clause-range .ensures .1)
 
--- src/lib.rt:50:5
 part-result-start : tie.Need-part-result-start
 part-result-start c =
     let at-if3 = c .before in
@@ -80,7 +71,6 @@ part-result-start c =
     let at-first-refusal = at-if1 .before in
     range-ordered (lent (at-first-refusal)) _ _ (at-first-refusal .first-refusal .ensures) (at-if1 .if1 .left) (at-if2 .if2 .left) (at-if3 .if3 .left) _ _ (c .clause-range .ensures .0) (c .clause-range .ensures .1)
 
--- src/lib.rt:50:5
 part-result-end : tie.Need-part-result-end
 part-result-end c =
     let at-if3 = c .before in
@@ -89,7 +79,6 @@ part-result-end c =
     let at-first-refusal = at-if1 .before in
     range-inside (lent (at-first-refusal)) _ _ (at-first-refusal .first-refusal .ensures) (at-if1 .if1 .left) (at-if2 .if2 .left) (at-if3 .if3 .left) _ _ (c .clause-range .ensures .0) (c .clause-range .ensures .1)
 
--- src/lib.rt:26:1
 returns-4 : tie.Need-returns-4
 returns-4 c =
     let at-if3 = c .before .before in

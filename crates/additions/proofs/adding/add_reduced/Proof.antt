@@ -14,80 +14,64 @@ use Rattle.clauses.proofs.writing.write_without.Reads as write-without-reads
 use Rattle.tables.proofs.adding.add_clause.Reads as add-clause-reads
 use Rattle.tables.proofs.adding.is_full.Reads as is-full-reads
 
--- src/adding.rt:79:17
 sub-width : tie.Need-sub-width
 sub-width c = search needs
 
--- src/adding.rt:80:34
 cast-is-full : tie.Need-cast-is-full
 cast-is-full c = search needs
 
--- src/adding.rt:80:8
 is-full-requires : tie.Need-is-full-requires
 is-full-requires c κs = search needs
 
--- src/adding.rt:81:9
 refused-requires : tie.Need-refused-requires
 refused-requires c κs = search needs
 
--- src/adding.rt:81:9
 returns : tie.Need-returns
 returns c =
     let width = sym (but-length (c .before .before .before .before .before .before .args .clause .now) (c .before .before .before .before .before .before .args .place) (c .before .before .before .before .before .before .pre .1)) in
     one-full _ _ (c .before .before .before .before .before .before .pre .0) _ (butAt (c .before .before .before .before .before .before .args .place) (c .before .before .before .before .before .before .args .clause .now)) refl width (c .before .before .is-full .ensures) (c .before .if1 .taken) (c .refused .ensures)
 
--- src/adding.rt:83:16
 cast-last : tie.Need-cast-last
 cast-last c = search needs
 
--- src/adding.rt:84:40
 mul-write-without : tie.Need-mul-write-without
 mul-write-without c = search needs
 
--- src/adding.rt:84:40
 sub-write-without : tie.Need-sub-write-without
 sub-write-without c =
     let width = sym (but-length (c .before .before .before .before .before .before .args .clause .now) (c .before .before .before .before .before .before .args .place) (c .before .before .before .before .before .before .pre .1)) in
     omega (arith, one-room _ _ (c .before .before .before .before .before .before .pre .0) _ (butAt (c .before .before .before .before .before .before .args .place) (c .before .before .before .before .before .before .args .clause .now)) refl width (c .before .before .is-full .ensures) (c .before .if1 .left))
 
--- src/adding.rt:84:40
 part-write-without-start : tie.Need-part-write-without-start
 part-write-without-start c =
     let width = sym (but-length (c .before .before .before .before .before .before .args .clause .now) (c .before .before .before .before .before .before .args .place) (c .before .before .before .before .before .before .pre .1)) in
     omega (arith, one-room _ _ (c .before .before .before .before .before .before .pre .0) _ (butAt (c .before .before .before .before .before .before .args .place) (c .before .before .before .before .before .before .args .clause .now)) refl width (c .before .before .is-full .ensures) (c .before .if1 .left))
 
--- src/adding.rt:84:40
 part-write-without-end : tie.Need-part-write-without-end
 part-write-without-end c = search needs
 
--- src/adding.rt:84:9
 write-without-requires : tie.Need-write-without-requires
 write-without-requires c κs =
     let width = sym (but-length (c .before .before .before .before .before .before .before .args .clause .now) (c .before .before .before .before .before .before .before .args .place) (c .before .before .before .before .before .before .before .pre .1)) in
     let room = one-room _ _ (c .before .before .before .before .before .before .before .pre .0) _ (butAt (c .before .before .before .before .before .before .before .args .place) (c .before .before .before .before .before .before .before .args .clause .now)) refl width (c .before .before .before .is-full .ensures) (c .before .before .if1 .left) in
     (c .before .before .before .before .before .before .before .pre .1, simp (length-take, length-drop) (omega (arith, room, width)))
 
--- src/adding.rt:85:48
 cast-add-clause : tie.Need-cast-add-clause
 cast-add-clause c =
     let width = sym (but-length (c .before .before .before .before .before .before .before .before .before .before .args .clause .now) (c .before .before .before .before .before .before .before .before .before .before .args .place) (c .before .before .before .before .before .before .before .before .before .before .pre .1)) in
     search needs
 
--- src/adding.rt:85:9
 add-clause-requires : tie.Need-add-clause-requires
 add-clause-requires c κs =
     let width = sym (but-length (c .before .before .before .before .before .before .before .before .before .before .args .clause .now) (c .before .before .before .before .before .before .before .before .before .before .args .place) (c .before .before .before .before .before .before .before .before .before .before .pre .1)) in
     one-asked _ _ (c .before .before .before .before .before .before .before .before .before .before .pre .0) _ (butAt (c .before .before .before .before .before .before .before .before .before .before .args .place) (c .before .before .before .before .before .before .before .before .before .before .args .clause .now)) refl width (c .before .before .before .before .before .before .is-full .ensures) (c .before .before .before .before .before .if1 .left) (c .before .before .write-without .ensures .count)
 
--- src/adding.rt:65:1
 same-length : tie.Need-same-length
 same-length c = search needs
 
--- src/adding.rt:65:1
 same-length-2 : tie.Need-same-length-2
 same-length-2 c = search needs
 
--- src/adding.rt:65:1
 returns-2 : tie.Need-returns-2
 returns-2 c =
     let width = sym (but-length (c .before .before .before .before .before .before .before .before .before .before .before .before .before .args .clause .now) (c .before .before .before .before .before .before .before .before .before .before .before .before .before .args .place) (c .before .before .before .before .before .before .before .before .before .before .before .before .before .pre .1)) in

@@ -12,63 +12,49 @@ use Rattle.additions.proofs.adding.refused.Reads as refused-reads
 use Rattle.additions.proofs.adding.write_resolvent.Reads as write-resolvent-reads
 use Rattle.tables.proofs.adding.add_clause.Reads as add-clause-reads
 
--- src/adding.rt:83:16
 cast-last : tie.Need-cast-last
 cast-last c = search needs
 
--- src/adding.rt:84:37
 mul-write-resolvent : tie.Need-mul-write-resolvent
 mul-write-resolvent c = search needs
 
--- src/adding.rt:84:37
 sub-write-resolvent : tie.Need-sub-write-resolvent
 sub-write-resolvent c = omega (arith, formed-is _ _ (c .before .before .before .before .pre .formed) .counts .literals)
 
--- src/adding.rt:84:37
 part-write-resolvent-start : tie.Need-part-write-resolvent-start
 part-write-resolvent-start c = omega (arith, formed-is _ _ (c .before .before .before .before .pre .formed) .counts .literals)
 
--- src/adding.rt:84:37
 part-write-resolvent-end : tie.Need-part-write-resolvent-end
 part-write-resolvent-end c = omega (arith, long-is _ (c .before .before .before .before .pre .lent) .literals)
 
--- src/adding.rt:84:9
 write-resolvent-requires : tie.Need-write-resolvent-requires
 write-resolvent-requires c κs = zero-tail _ _ (c .before .before .before .before .before .pre)
 
--- src/adding.rt:86:9
 refused-requires : tie.Need-refused-requires
 refused-requires c κs = search needs
 
--- src/adding.rt:86:9
 same-length : tie.Need-same-length
 same-length c = search needs
 
--- src/adding.rt:86:9
 returns : tie.Need-returns
 returns c = resolvent-refused _ _ (c .before .before .before .before .before .before .before .before .before .before .pre) (join (c .before .before .before .before .before .before .before .before .before .before .args .first .now) (c .before .before .before .before .before .before .before .before .before .before .args .second .now)) (c .before .before .before .before .write-resolvent .ensures .number) (c .before .before .before .before .write-resolvent .ensures .left) (c .before .if1 .taken) (c .refused .ensures)
 
--- src/adding.rt:88:48
 cast-add-clause : tie.Need-cast-add-clause
 cast-add-clause c =
     let fits = resolvent-fits _ _ (c .before .before .before .before .before .before .before .before .before .before .before .pre) (join (c .before .before .before .before .before .before .before .before .before .before .before .args .first .now) (c .before .before .before .before .before .before .before .before .before .before .before .args .second .now)) (c .before .before .before .before .before .write-resolvent .ensures .number) (c .before .before .if1 .left) in
     omega (arith, fits .0, c .before .before .before .before .before .write-resolvent .ensures .count)
 
--- src/adding.rt:88:9
 add-clause-requires : tie.Need-add-clause-requires
 add-clause-requires c κs =
     let fits = resolvent-fits _ _ (c .before .before .before .before .before .before .before .before .before .before .before .pre) (join (c .before .before .before .before .before .before .before .before .before .before .before .args .first .now) (c .before .before .before .before .before .before .before .before .before .before .before .args .second .now)) (c .before .before .before .before .before .write-resolvent .ensures .number) (c .before .before .if1 .left) in
     one-asked _ _ (c .before .before .before .before .before .before .before .before .before .before .before .pre) _ (join (c .before .before .before .before .before .before .before .before .before .before .before .args .first .now) (c .before .before .before .before .before .before .before .before .before .before .before .args .second .now)) refl refl refl (fits .1) (c .before .before .before .before .before .write-resolvent .ensures .count)
 
--- src/adding.rt:69:1
 same-length-2 : tie.Need-same-length-2
 same-length-2 c = search needs
 
--- src/adding.rt:69:1
 same-length-3 : tie.Need-same-length-3
 same-length-3 c = search needs
 
--- src/adding.rt:69:1
 returns-2 : tie.Need-returns-2
 returns-2 c =
     let fits = resolvent-fits _ _ (c .before .before .before .before .before .before .before .before .before .before .before .before .before .before .pre) (join (c .before .before .before .before .before .before .before .before .before .before .before .before .before .before .args .first .now) (c .before .before .before .before .before .before .before .before .before .before .before .before .before .before .args .second .now)) (c .before .before .before .before .before .before .before .before .write-resolvent .ensures .number) (c .before .before .before .before .before .if1 .left) in

@@ -6,27 +6,21 @@ use Rattle.additions.proofs.adding.number_of.Reads as reads
 use Rattle.additions.proofs.adding.number_of.Lts as lts
 use Rattle.tables.proofs.adding.is_full.Reads as is-full-reads
 
--- src/adding.rt:36:9
 returns : tie.Need-returns
 returns c = number-24 _ _ _ (c .if1 .taken)
 
--- src/adding.rt:39:9
 returns-2 : tie.Need-returns-2
 returns-2 c = number-23 _ _ _ (c .before .if1 .left) (c .if2 .taken)
 
--- src/adding.rt:41:34
 cast-is-full : tie.Need-cast-is-full
 cast-is-full c = search needs
 
--- src/adding.rt:41:8
 is-full-requires : tie.Need-is-full-requires
 is-full-requires c κs = search needs
 
--- src/adding.rt:42:9
 returns-3 : tie.Need-returns-3
 returns-3 c = number-25 _ _ _ (c .before .before .before .before .if1 .left) (c .before .before .before .if2 .left) (c .before .is-full .ensures) (c .if3 .taken)
 
--- src/adding.rt:32:1
 returns-4 : tie.Need-returns-4
 returns-4 c = number-0 _ _ _ (c .before .before .before .before .if1 .left) (c .before .before .before .if2 .left) (c .before .is-full .ensures) (c .if3 .left)
 

@@ -11,23 +11,18 @@ use Rattle.additions.proofs.adding.number_of.Reads as number-of-reads
 use Rattle.joins.proofs.erase.Reads as erase-reads
 use Rattle.joins.proofs.write_join.Reads as write-join-reads
 
--- src/adding.rt:58:9
 write-join-requires : tie.Need-write-join-requires
 write-join-requires c κs = search needs
 
--- src/adding.rt:60:9
 number-of-requires : tie.Need-number-of-requires
 number-of-requires c κs = search needs
 
--- src/adding.rt:62:9
 erase-requires : tie.Need-erase-requires
 erase-requires c κs = search needs
 
--- src/adding.rt:63:9
 same-length : tie.Need-same-length
 same-length c = search needs
 
--- src/adding.rt:63:9
 returns : tie.Need-returns
 returns c =
     record {
@@ -36,11 +31,9 @@ returns c =
       left = rw (ne-eqb (c .before .before .before .before .number-of .result) 0 (c .before .before .before .if1 .taken)) (overlaid-erased (pos 0) (join (c .before .before .before .before .before .before .before .before .args .first .now) (c .before .before .before .before .before .before .before .before .args .second .now)) (c .before .before .before .before .before .before .before .before .args .tail .now) (c .before .before .before .before .before .before .before .before .pre) (c .before .before .before .before .before .before .write-join .ensures .count) (c .before .before .before .before .before .before .write-join .ensures .left) (c .before .erase .ensures));
     }
 
--- src/adding.rt:54:1
 same-length-2 : tie.Need-same-length-2
 same-length-2 c = search needs
 
--- src/adding.rt:54:1
 returns-2 : tie.Need-returns-2
 returns-2 c =
     record {

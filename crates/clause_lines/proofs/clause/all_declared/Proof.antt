@@ -19,39 +19,30 @@ Inv-loop ranks kinds i₀ i = (i ≤ length ranks) × (allOf (isDeclared kinds) 
 abbrev μ-loop : tie.MeasureT-loop
 μ-loop ranks kinds i₀ i = length ranks - i
 
--- src/clause.rt:32:5
 loop-holds : tie.Need-loop-holds Inv-loop μ-loop
 loop-holds c = (omega arith, refl)
 
--- src/clause.rt:33:59
 mul-t5 : tie.Need-mul-t5 Inv-loop μ-loop
 mul-t5 c = search needs
 
--- src/clause.rt:33:59
 shared-slice-read-t8 : tie.Need-shared-slice-read-t8 Inv-loop μ-loop
 shared-slice-read-t8 c = search needs
 
--- src/clause.rt:33:13
 kind-of-requires : tie.Need-kind-of-requires Inv-loop μ-loop
 kind-of-requires c κs = search needs
 
--- src/clause.rt:35:13
 returns : tie.Need-returns Inv-loop μ-loop
 returns c = sym (sym (c .before .before .before .before .loop .inv .1) ∙ all-fail _ (c .before .before .before .before .before .before .before .args .ranks .now) (c .before .before .before .before .loop .i) 0 (c .before .before .before .loop-test .taken) (declared-no _ _ (c .before .kind-of .ensures) (c .if1 .taken)))
 
--- src/clause.rt:37:9
 add-i : tie.Need-add-i Inv-loop μ-loop
 add-i c = search needs
 
--- src/clause.rt:32:5
 loop-less : tie.Need-loop-less Inv-loop μ-loop
 loop-less c = search needs
 
--- src/clause.rt:32:5
 loop-again : tie.Need-loop-again Inv-loop μ-loop
 loop-again c = (omega arith, sym (all-pass _ (c .before .before .before .before .before .before .before .args .ranks .now) (c .before .before .before .before .loop .i) 0 (c .before .before .before .loop-test .taken) (declared-yes _ _ (c .before .kind-of .ensures) (c .if1 .left))) ∙ c .before .before .before .before .loop .inv .1)
 
--- src/clause.rt:28:1
 returns-2 : tie.Need-returns-2 Inv-loop μ-loop
 returns-2 c = sym (sym (c .before .loop .inv .1) ∙ all-end _ (c .before .before .before .before .args .ranks .now) (c .before .loop .i) (c .loop-test .left))
 

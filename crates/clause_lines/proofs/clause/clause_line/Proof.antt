@@ -13,87 +13,66 @@ use Rattle.ranks.proofs.order.insert_all.Reads as insert-all-reads
 use Rattle.tables.proofs.adding.count_formula_clause.Reads as count-formula-clause-reads
 use Rattle.tables.proofs.adding.end_clause.Reads as end-clause-reads
 
--- src/clause.rt:82:9
 refused-requires : tie.Need-refused-requires
 refused-requires c κs = search needs
 
--- src/clause.rt:82:9
 returns : tie.Need-returns
 returns c = λ t r s C h q. rw (c .refused .ensures) (c-late h C (c .before .if1 .taken))
 
--- src/clause.rt:85:55
 slice-aggregate-insert-all : tie.Need-slice-aggregate-insert-all
 slice-aggregate-insert-all c = search needs
 
--- src/clause.rt:85:9
 insert-all-requires : tie.Need-insert-all-requires
 insert-all-requires c κs = search needs
 
--- src/clause.rt:86:33
 slice-aggregate-clause-refusal : tie.Need-slice-aggregate-clause-refusal
 slice-aggregate-clause-refusal c = search needs
 
--- src/clause.rt:86:9
 clause-refusal-requires : tie.Need-clause-refusal-requires
 clause-refusal-requires c κs = search needs
 
--- src/clause.rt:88:9
 refused-requires-2 : tie.Need-refused-requires-2
 refused-requires-2 c κs = search needs
 
--- src/clause.rt:88:9
 returns-2 : tie.Need-returns-2
 returns-2 c = λ t r s C h q. rw (c .refused2 .ensures) (c-refused h C (c .before .before .before .before .before .before .before .if1 .left) q _ _ (c .before .before .before .before .before .insert-all .ensures) (c .before .before .clause-refusal .ensures) (c .before .if2 .taken))
 
--- src/clause.rt:91:17
 cast-place : tie.Need-cast-place
 cast-place c = search needs
 
--- src/clause.rt:92:30
 slice-aggregate-write-literals : tie.Need-slice-aggregate-write-literals
 slice-aggregate-write-literals c = search needs
 
--- src/clause.rt:92:46
 mul-write-literals : tie.Need-mul-write-literals
 mul-write-literals c = search needs
 
--- src/clause.rt:92:46
 sub-write-literals : tie.Need-sub-write-literals
 sub-write-literals c = search needs
 
--- src/clause.rt:92:46
 part-write-literals-start : tie.Need-part-write-literals-start
 part-write-literals-start c = search needs
 
--- src/clause.rt:92:46
 part-write-literals-end : tie.Need-part-write-literals-end
 part-write-literals-end c = search needs
 
--- src/clause.rt:92:5
 write-literals-requires : tie.Need-write-literals-requires
 write-literals-requires c κs = let g = passes-all _ _ _ (c .before .before .before .before .before .before .before .before .before .before .before .before .before .before .before .args .kinds .now) (sym (c .before .before .before .before .before .clause-refusal .ensures) ∙ c .before .before .before .before .if2 .left) in ((omega arith, omega (arith, g .light, c .before .before .before .before .before .before .before .before .before .before .before .before .before .before .before .pre .1)), literals-low (c .before .before .before .before .before .before .before .before .before .before .before .before .before .before .before .pre .0) g (omega arith))
 
--- src/clause.rt:93:49
 cast-end-clause : tie.Need-cast-end-clause
 cast-end-clause c = search needs
 
--- src/clause.rt:93:9
 end-clause-requires : tie.Need-end-clause-requires
 end-clause-requires c κs = (room (c .before .before .before .before .before .before .before .before .before .before .before .before .before .before .before .before .before .before .pre .0) (passes-all _ _ _ (c .before .before .before .before .before .before .before .before .before .before .before .before .before .before .before .before .before .before .args .kinds .now) (sym (c .before .before .before .before .before .before .before .before .clause-refusal .ensures) ∙ c .before .before .before .before .before .before .before .if2 .left)), c .before .before .before .before .before .before .before .before .before .before .before .before .before .before .before .before .before .before .pre .2)
 
--- src/clause.rt:94:9
 count-formula-clause-requires : tie.Need-count-formula-clause-requires
 count-formula-clause-requires c κs = formula-kept (c .before .before .before .before .before .before .before .before .before .before .before .before .before .before .before .before .before .before .before .before .before .pre .0) (passes-all _ _ _ (c .before .before .before .before .before .before .before .before .before .before .before .before .before .before .before .before .before .before .before .before .before .args .kinds .now) (sym (c .before .before .before .before .before .before .before .before .before .before .before .clause-refusal .ensures) ∙ c .before .before .before .before .before .before .before .before .before .before .if2 .left)) (c .before .before .end-clause .ensures .0)
 
--- src/clause.rt:69:1
 same-length : tie.Need-same-length
 same-length c = search needs
 
--- src/clause.rt:69:1
 same-length-2 : tie.Need-same-length-2
 same-length-2 c = search needs
 
--- src/clause.rt:69:1
 returns-3 : tie.Need-returns-3
 returns-3 c =
     let g = passes-all _ _ _ (c .before .before .before .before .before .before .before .before .before .before .before .before .before .before .before .before .before .before .before .before .before .before .args .kinds .now) (sym (c .before .before .before .before .before .before .before .before .before .before .before .before .clause-refusal .ensures) ∙ c .before .before .before .before .before .before .before .before .before .before .before .if2 .left) in

@@ -11,55 +11,42 @@ use Rattle.clause_lines.proofs.clause.clause_refusal.Lts as lts
 use Rattle.clause_lines.proofs.clause.all_declared.Reads as all-declared-reads
 use Rattle.ranks.proofs.literals.has_pair.Reads as has-pair-reads
 
--- src/clause.rt:47:9
 returns : tie.Need-returns
 returns c = let s = c .before .before .before .args in sym (r-wide (s .ranks .now) _ _ (s .kinds .now) (c .if1 .taken))
 
--- src/clause.rt:50:8
 cast-if2 : tie.Need-cast-if2
 cast-if2 c = search needs
 
--- src/clause.rt:50:8
 add-if2 : tie.Need-add-if2
 add-if2 c = search needs
 
--- src/clause.rt:51:9
 returns-2 : tie.Need-returns-2
 returns-2 c = let s = c .before .before .before .before .before .before .args in sym (r-many (s .ranks .now) _ _ (s .kinds .now) (c .before .before .before .if1 .left) (c .if2 .taken))
 
--- src/clause.rt:54:15
 cast-end : tie.Need-cast-end
 cast-end c = search needs
 
--- src/clause.rt:55:22
 slice-aggregate-all-declared : tie.Need-slice-aggregate-all-declared
 slice-aggregate-all-declared c = sym (length-take-le _ (c .before .before .before .before .before .before .before .before .before .args .ranks .now) (omega arith))
 
--- src/clause.rt:55:39
 slice-aggregate-all-declared-2 : tie.Need-slice-aggregate-all-declared-2
 slice-aggregate-all-declared-2 c = sym (length-take-le _ (c .before .before .before .before .before .before .before .before .before .before .args .kinds .now) (omega arith))
 
--- src/clause.rt:55:9
 all-declared-requires : tie.Need-all-declared-requires
 all-declared-requires c κs = search needs
 
--- src/clause.rt:56:9
 returns-3 : tie.Need-returns-3
 returns-3 c = let s = c .before .before .before .before .before .before .before .before .before .before .before .before .args in sym (r-undeclared (s .ranks .now) _ _ (s .kinds .now) (c .before .before .before .before .before .before .before .before .before .if1 .left) (c .before .before .before .before .before .before .if2 .left) (sym (c .before .all-declared .ensures) ∙ not-true _ (c .if3 .taken)))
 
--- src/clause.rt:58:8
 has-pair-requires : tie.Need-has-pair-requires
 has-pair-requires c κs = search needs
 
--- src/clause.rt:59:9
 returns-4 : tie.Need-returns-4
 returns-4 c = let s = c .before .before .before .before .before .before .before .before .before .before .before .before .before .before .args in sym (r-clash (s .ranks .now) _ _ (s .kinds .now) (c .before .before .before .before .before .before .before .before .before .before .before .if1 .left) (c .before .before .before .before .before .before .before .before .if2 .left) (sym (c .before .before .before .all-declared .ensures) ∙ not-false _ (c .before .before .if3 .left)) (sym (c .before .has-pair .ensures) ∙ c .if4 .taken))
 
--- src/clause.rt:63:9
 returns-5 : tie.Need-returns-5
 returns-5 c = let s = c .before .before .before .before .before .before .before .before .before .before .before .before .before .before .before .before .before .before .args in sym (r-count (s .ranks .now) _ _ (s .kinds .now) (c .before .before .before .before .before .before .before .before .before .before .before .before .before .before .before .if1 .left) (c .before .before .before .before .before .before .before .before .before .before .before .before .if2 .left) (sym (c .before .before .before .before .before .before .before .all-declared .ensures) ∙ not-false _ (c .before .before .before .before .before .before .if3 .left)) (sym (c .before .before .before .before .before .has-pair .ensures) ∙ c .before .before .before .before .if4 .left) (c .if5 .taken))
 
--- src/clause.rt:42:1
 returns-6 : tie.Need-returns-6
 returns-6 c = let s = c .before .before .before .before .before .before .before .before .before .before .before .before .before .before .before .before .before .before .args in sym (r-none (s .ranks .now) _ _ (s .kinds .now) (c .before .before .before .before .before .before .before .before .before .before .before .before .before .before .before .if1 .left) (c .before .before .before .before .before .before .before .before .before .before .before .before .if2 .left) (sym (c .before .before .before .before .before .before .before .all-declared .ensures) ∙ not-false _ (c .before .before .before .before .before .before .if3 .left)) (sym (c .before .before .before .before .before .has-pair .ensures) ∙ c .before .before .before .before .if4 .left) (c .if5 .left))
 

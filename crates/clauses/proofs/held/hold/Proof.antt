@@ -6,15 +6,12 @@ use Rattle.clauses.proofs.held.hold.Reads as reads
 use Rattle.clauses.proofs.held.hold.Lts as lts
 use Rattle.clauses.proofs.writing.write_clause.Reads as write-clause-reads
 
--- src/held.rt:22:39
 slice-aggregate-write-clause : tie.Need-slice-aggregate-write-clause
 slice-aggregate-write-clause c = search needs
 
--- src/held.rt:22:9
 write-clause-requires : tie.Need-write-clause-requires
 write-clause-requires c κs = search needs
 
--- src/held.rt:17:1
 returns : tie.Need-returns
 returns c = record { copied = written-copied (c .before .write-clause .ensures); whole = c .before .write-clause .kept .0 }
 

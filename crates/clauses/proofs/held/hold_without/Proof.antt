@@ -6,15 +6,12 @@ use Rattle.clauses.proofs.held.hold_without.Reads as reads
 use Rattle.clauses.proofs.held.hold_without.Lts as lts
 use Rattle.clauses.proofs.writing.write_without.Reads as write-without-reads
 
--- src/held.rt:32:40
 slice-aggregate-write-without : tie.Need-slice-aggregate-write-without
 slice-aggregate-write-without c = search needs
 
--- src/held.rt:32:9
 write-without-requires : tie.Need-write-without-requires
 write-without-requires c κs = search needs
 
--- src/held.rt:27:1
 returns : tie.Need-returns
 returns c = record { copied = written-copied (c .before .write-without .ensures); whole = c .before .write-without .kept .0 }
 

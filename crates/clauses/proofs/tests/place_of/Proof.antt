@@ -23,35 +23,27 @@ Inv-loop clause literal n i₀ i = (i ≤ length clause) × (placeOf (toZ w16 li
 abbrev μ-loop : tie.MeasureT-loop
 μ-loop clause literal n i₀ i = length clause - i
 
--- src/tests.rt:15:5
 loop-holds : tie.Need-loop-holds Inv-loop μ-loop
 loop-holds c = (search needs, sym (zero-add _))
 
--- src/tests.rt:16:17
 mul-l : tie.Need-mul-l Inv-loop μ-loop
 mul-l c = search needs
 
--- src/tests.rt:16:17
 shared-slice-copy-out-l : tie.Need-shared-slice-copy-out-l Inv-loop μ-loop
 shared-slice-copy-out-l c = search needs
 
--- src/tests.rt:18:13
 returns : tie.Need-returns Inv-loop μ-loop
 returns c = rw (toZ-ofZ (c .before .before .before .before .fits .literal)) at (place-found _ (list-front (c .before .before .before .before .args .clause .now) (c .before .before .before .loop .i) (pos 0) (omega arith)) (c .before .before .before .loop .i) (c .before .before .before .loop .inv .1) (bits-same (c .before .l .given) (c .if1 .taken)))
 
--- src/tests.rt:20:9
 add-i : tie.Need-add-i Inv-loop μ-loop
 add-i c = search needs
 
--- src/tests.rt:15:5
 loop-less : tie.Need-loop-less Inv-loop μ-loop
 loop-less c = search needs
 
--- src/tests.rt:15:5
 loop-again : tie.Need-loop-again Inv-loop μ-loop
 loop-again c = (search needs, place-passed _ (list-front (c .before .before .before .before .args .clause .now) (c .before .before .before .loop .i) (pos 0) (omega arith)) (c .before .before .before .loop .i) (c .before .before .before .loop .inv .1) (bits-differ (c .before .before .before .before .fits .literal) (c .if1 .left)))
 
--- src/tests.rt:10:1
 returns-2 : tie.Need-returns-2 Inv-loop μ-loop
 returns-2 c =
     let here = place-end _ (list-end (c .before .before .args .clause .now) (c .before .loop .i) (omega arith)) (c .before .loop .i) (c .before .loop .inv .1) in

@@ -18,43 +18,33 @@ Inv-loop tail₀ clause place₀ tail place = (place ≤ length clause) × Writi
 abbrev μ-loop : tie.MeasureT-loop
 μ-loop tail₀ clause place₀ tail place = length clause - place
 
--- src/writing.rt:21:5
 loop-holds : tie.Need-loop-holds Inv-loop μ-loop
 loop-holds c = (search needs, writing-start _ _)
 
--- src/writing.rt:22:17
 mul-l : tie.Need-mul-l Inv-loop μ-loop
 mul-l c = search needs
 
--- src/writing.rt:22:17
 shared-slice-copy-out-l : tie.Need-shared-slice-copy-out-l Inv-loop μ-loop
 shared-slice-copy-out-l c = search needs
 
--- src/writing.rt:23:9
 mul-l-2 : tie.Need-mul-l-2 Inv-loop μ-loop
 mul-l-2 c = search needs
 
--- src/writing.rt:23:9
 slice-set-from-l : tie.Need-slice-set-from-l Inv-loop μ-loop
 slice-set-from-l c = omega (arith, c .before .before .loop .inv .1 .copied .same)
 
--- src/writing.rt:24:9
 add-place : tie.Need-add-place Inv-loop μ-loop
 add-place c = search needs
 
--- src/writing.rt:21:5
 loop-less : tie.Need-loop-less Inv-loop μ-loop
 loop-less c = search needs
 
--- src/writing.rt:21:5
 loop-again : tie.Need-loop-again Inv-loop μ-loop
 loop-again c = (search needs, writing-more (c .before .before .loop .inv .1) (omega (arith, c .before .before .loop .inv .1 .copied .same)) (list-front (c .before .before .before .args .clause .now) (c .before .before .loop .place) (pos 0) (omega arith)) (kept16 (c .l .given)))
 
--- src/writing.rt:16:1
 same-length : tie.Need-same-length Inv-loop μ-loop
 same-length c = c .before .loop .inv .1 .copied .same
 
--- src/writing.rt:16:1
 returns : tie.Need-returns Inv-loop μ-loop
 returns c = writing-done (c .before .loop .inv .1) (list-end (c .before .before .args .clause .now) (c .before .loop .place) (omega arith))
 

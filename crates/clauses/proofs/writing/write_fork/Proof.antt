@@ -14,54 +14,44 @@ use Rattle.clauses.proofs.writing.write_fork.Lts as lts
 use Rattle.clauses.proofs.writing.write_part.Reads as write-part-reads
 use Rattle.dqbf.proofs.literal.negated.Reads as negated-reads
 
--- src/writing.rt:83:9
 write-part-requires : tie.Need-write-part-requires
 write-part-requires c κs = search needs
 
--- src/writing.rt:86:13
 mul-write-part : tie.Need-mul-write-part
 mul-write-part c =
     let first = simp length-append at (c .before .write-part .ensures .count) in
     search needs
 
--- src/writing.rt:86:13
 sub-write-part : tie.Need-sub-write-part
 sub-write-part c =
     let first = simp length-append at (c .before .write-part .ensures .count) in
     search needs
 
--- src/writing.rt:86:13
 part-write-part-start : tie.Need-part-write-part-start
 part-write-part-start c =
     let first = simp length-append at (c .before .write-part .ensures .count) in
     search needs
 
--- src/writing.rt:86:13
 part-write-part-end : tie.Need-part-write-part-end
 part-write-part-end c = search needs
 
--- src/writing.rt:89:13
 negated-requires : tie.Need-negated-requires
 negated-requires c κs = search needs
 
--- src/writing.rt:85:11
 write-part-requires-2 : tie.Need-write-part-requires-2
 write-part-requires-2 c κs =
     let first = simp length-append at (c .before .before .before .write-part .ensures .count) in
     (c .before .before .before .before .before .pre .0, tail-room (c .before .before .before .write-part .last .0) (c .before .before .before .write-part .result) (omega arith))
 
--- src/writing.rt:84:5
 add-result : tie.Need-add-result
 add-result c =
     let first = simp length-append at (c .before .before .before .before .before .write-part .ensures .count) in
     let second = simp length-append at (c .before .write-part2 .ensures .count) in
     search needs
 
--- src/writing.rt:77:1
 same-length : tie.Need-same-length
 same-length c = search needs
 
--- src/writing.rt:77:1
 returns : tie.Need-returns
 returns c =
     let v = toZ-ofZ (c .before .before .before .before .before .before .before .fits .variable) in

@@ -25,67 +25,51 @@ Inv-loop tail₀ clause mask new n width₀ rest₀ at₀ tail width rest at = (
 abbrev μ-loop : tie.MeasureT-loop
 μ-loop tail₀ clause mask new n width₀ rest₀ at₀ tail width rest at = rest
 
--- src/writing.rt:64:18
 cast-at : tie.Need-cast-at Inv-loop μ-loop
 cast-at c = omega (arith, trailing-le 32 (c .args .mask))
 
--- src/writing.rt:65:5
 loop-holds : tie.Need-loop-holds Inv-loop μ-loop
 loop-holds c = (refl, writing-start _ _)
 
--- src/writing.rt:66:17
 mul-l : tie.Need-mul-l Inv-loop μ-loop
 mul-l c = search needs
 
--- src/writing.rt:66:17
 shared-slice-copy-out-l : tie.Need-shared-slice-copy-out-l Inv-loop μ-loop
 shared-slice-copy-out-l c = search needs
 
--- src/writing.rt:67:9
 mul-l-2 : tie.Need-mul-l-2 Inv-loop μ-loop
 mul-l-2 c = let room = writing-room (c .before .before .loop .inv .1) (omega (arith, length-append (pick (c .before .before .before .args .mask) (c .before .before .before .args .clause .now)) (toZ w16 (ofZ w16 (c .before .before .before .args .new)) ∷ []))) (lowest-before (c .before .before .before .args .clause .now) (c .before .before .loop .rest) (c .before .before .loop .at) (c .before .before .before .pre .0) (c .before .before .loop .inv .0) (toZ w16 (ofZ w16 (c .before .before .before .args .new))) (omega arith)) in search needs
 
--- src/writing.rt:67:9
 slice-set-from-l : tie.Need-slice-set-from-l Inv-loop μ-loop
 slice-set-from-l c = writing-room (c .before .before .loop .inv .1) (omega (arith, length-append (pick (c .before .before .before .args .mask) (c .before .before .before .args .clause .now)) (toZ w16 (ofZ w16 (c .before .before .before .args .new)) ∷ []))) (lowest-before (c .before .before .before .args .clause .now) (c .before .before .loop .rest) (c .before .before .loop .at) (c .before .before .before .pre .0) (c .before .before .loop .inv .0) (toZ w16 (ofZ w16 (c .before .before .before .args .new))) (omega arith))
 
--- src/writing.rt:68:9
 add-width : tie.Need-add-width Inv-loop μ-loop
 add-width c = let room = writing-room (c .before .before .loop .inv .1) (omega (arith, length-append (pick (c .before .before .before .args .mask) (c .before .before .before .args .clause .now)) (toZ w16 (ofZ w16 (c .before .before .before .args .new)) ∷ []))) (lowest-before (c .before .before .before .args .clause .now) (c .before .before .loop .rest) (c .before .before .loop .at) (c .before .before .before .pre .0) (c .before .before .loop .inv .0) (toZ w16 (ofZ w16 (c .before .before .before .args .new))) (omega arith)) in search needs
 
--- src/writing.rt:69:24
 sub-rest : tie.Need-sub-rest Inv-loop μ-loop
 sub-rest c = let some = lowest-there (c .before .before .before .args .clause .now) (c .before .before .loop .rest) (c .before .before .loop .at) (c .before .before .before .pre .0) (c .before .before .loop .inv .0) (omega arith) in search needs
 
--- src/writing.rt:70:14
 cast-at-2 : tie.Need-cast-at-2 Inv-loop μ-loop
 cast-at-2 c = omega (arith, trailing-le 32 (bitAnd (c .before .before .loop .rest) (c .before .before .loop .rest - 1)))
 
--- src/writing.rt:65:5
 loop-less : tie.Need-loop-less Inv-loop μ-loop
 loop-less c = let some = lowest-there (c .before .before .before .args .clause .now) (c .before .before .loop .rest) (c .before .before .loop .at) (c .before .before .before .pre .0) (c .before .before .loop .inv .0) (omega arith) in omega (arith, and-le-r (c .before .before .loop .rest) (c .before .before .loop .rest - 1))
 
--- src/writing.rt:65:5
 loop-again : tie.Need-loop-again Inv-loop μ-loop
 loop-again c = let next = lowest-before (c .before .before .before .args .clause .now) (c .before .before .loop .rest) (c .before .before .loop .at) (c .before .before .before .pre .0) (c .before .before .loop .inv .0) (toZ w16 (ofZ w16 (c .before .before .before .args .new))) (omega arith) in let room = writing-room (c .before .before .loop .inv .1) (omega (arith, length-append (pick (c .before .before .before .args .mask) (c .before .before .before .args .clause .now)) (toZ w16 (ofZ w16 (c .before .before .before .args .new)) ∷ []))) next in (refl, writing-more (c .before .before .loop .inv .1) room next (kept16 (c .l .given)))
 
--- src/writing.rt:72:5
 mul-new : tie.Need-mul-new Inv-loop μ-loop
 mul-new c = let room = writing-room (c .before .loop .inv .1) (omega (arith, length-append (pick (c .before .before .args .mask) (c .before .before .args .clause .now)) (toZ w16 (ofZ w16 (c .before .before .args .new)) ∷ []))) (last-left (c .before .before .args .clause .now) (c .before .loop .rest) (c .before .loop .at) (c .before .before .pre .0) (c .before .loop .inv .0) (toZ w16 (ofZ w16 (c .before .before .args .new))) (omega arith)) in search needs
 
--- src/writing.rt:72:5
 slice-set-from-new : tie.Need-slice-set-from-new Inv-loop μ-loop
 slice-set-from-new c = writing-room (c .before .loop .inv .1) (omega (arith, length-append (pick (c .before .before .args .mask) (c .before .before .args .clause .now)) (toZ w16 (ofZ w16 (c .before .before .args .new)) ∷ []))) (last-left (c .before .before .args .clause .now) (c .before .loop .rest) (c .before .loop .at) (c .before .before .pre .0) (c .before .loop .inv .0) (toZ w16 (ofZ w16 (c .before .before .args .new))) (omega arith))
 
--- src/writing.rt:73:5
 add-result : tie.Need-add-result Inv-loop μ-loop
 add-result c = let room = writing-room (c .before .loop .inv .1) (omega (arith, length-append (pick (c .before .before .args .mask) (c .before .before .args .clause .now)) (toZ w16 (ofZ w16 (c .before .before .args .new)) ∷ []))) (last-left (c .before .before .args .clause .now) (c .before .loop .rest) (c .before .loop .at) (c .before .before .pre .0) (c .before .loop .inv .0) (toZ w16 (ofZ w16 (c .before .before .args .new))) (omega arith)) in search needs
 
--- src/writing.rt:57:1
 same-length : tie.Need-same-length Inv-loop μ-loop
 same-length c = simp length-set (c .before .loop .inv .1 .copied .same)
 
--- src/writing.rt:57:1
 returns : tie.Need-returns Inv-loop μ-loop
 returns c = let last = last-left (c .before .before .args .clause .now) (c .before .loop .rest) (c .before .loop .at) (c .before .before .pre .0) (c .before .loop .inv .0) (toZ w16 (ofZ w16 (c .before .before .args .new))) (omega arith) in let room = writing-room (c .before .loop .inv .1) (omega (arith, length-append (pick (c .before .before .args .mask) (c .before .before .args .clause .now)) (toZ w16 (ofZ w16 (c .before .before .args .new)) ∷ []))) last in written-as (writing-done (writing-more (c .before .loop .inv .1) room last refl) refl) (ap (λ (l : ℤ). pick (c .before .before .args .mask) (c .before .before .args .clause .now) ++ (l ∷ [])) (toZ-ofZ (c .before .before .fits .new)))
 

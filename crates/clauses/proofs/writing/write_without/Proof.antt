@@ -20,48 +20,38 @@ Inv-loop tail₀ clause place count i₀ tail i = (i ≤ count) × Writing (butA
 abbrev μ-loop : tie.MeasureT-loop
 μ-loop tail₀ clause place count i₀ tail i = count - i
 
--- src/writing.rt:45:17
 sub-count : tie.Need-sub-count Inv-loop μ-loop
 sub-count c = search needs
 
--- src/writing.rt:47:5
 loop-holds : tie.Need-loop-holds Inv-loop μ-loop
 loop-holds c = (search needs, writing-start _ _)
 
--- src/writing.rt:48:13
 skipping-requires : tie.Need-skipping-requires Inv-loop μ-loop
 skipping-requires c κs = search needs
 
--- src/writing.rt:49:17
 mul-l : tie.Need-mul-l Inv-loop μ-loop
 mul-l c =
     let start = c .before .before .before in
     let within = skipped-within (start .args .clause .now) (start .args .place) (c .before .before .loop .i) (c .skipping .ensures) (omega arith) in
     search needs
 
--- src/writing.rt:49:17
 shared-slice-copy-out-l : tie.Need-shared-slice-copy-out-l Inv-loop μ-loop
 shared-slice-copy-out-l c =
     let start = c .before .before .before in
     skipped-within (start .args .clause .now) (start .args .place) (c .before .before .loop .i) (c .skipping .ensures) (omega arith)
 
--- src/writing.rt:50:9
 mul-l-2 : tie.Need-mul-l-2 Inv-loop μ-loop
 mul-l-2 c = search needs
 
--- src/writing.rt:50:9
 slice-set-from-l : tie.Need-slice-set-from-l Inv-loop μ-loop
 slice-set-from-l c = omega (arith, c .before .before .before .loop .inv .1 .copied .same)
 
--- src/writing.rt:51:9
 add-i : tie.Need-add-i Inv-loop μ-loop
 add-i c = search needs
 
--- src/writing.rt:47:5
 loop-less : tie.Need-loop-less Inv-loop μ-loop
 loop-less c = search needs
 
--- src/writing.rt:47:5
 loop-again : tie.Need-loop-again Inv-loop μ-loop
 loop-again c =
     let start = c .before .before .before .before in
@@ -69,11 +59,9 @@ loop-again c =
     let next = but-front (start .args .clause .now) (start .args .place) (l .i) (c .before .skipping .ensures) (pos 0) (start .pre .0) (omega arith) in
     (search needs, writing-more (l .inv .1) (omega (arith, l .inv .1 .copied .same)) next (kept16 (c .l .given)))
 
--- src/writing.rt:41:1
 same-length : tie.Need-same-length Inv-loop μ-loop
 same-length c = c .before .loop .inv .1 .copied .same
 
--- src/writing.rt:41:1
 returns : tie.Need-returns Inv-loop μ-loop
 returns c =
     let clause = c .before .before .args .clause .now in

@@ -16,55 +16,42 @@ Inv-loop places bound sets₀ kinds₀ i₀ sets kinds i = (i ≤ bound) × (len
 abbrev μ-loop : tie.MeasureT-loop
 μ-loop places bound sets₀ kinds₀ i₀ sets kinds i = bound - i
 
--- src/finishing.rt:12:5
 loop-holds : tie.Need-loop-holds Inv-loop μ-loop
 loop-holds c = (omega arith, refl, refl, finish-start _ _ _)
 
--- src/finishing.rt:14:20
 slice-read-kind : tie.Need-slice-read-kind Inv-loop μ-loop
 slice-read-kind c = search needs
 
--- src/finishing.rt:15:9
 add-i : tie.Need-add-i Inv-loop μ-loop
 add-i c = search needs
 
--- src/finishing.rt:17:13
 mul-sets : tie.Need-mul-sets Inv-loop μ-loop
 mul-sets c = search needs
 
--- src/finishing.rt:17:13
 slice-write-sets : tie.Need-slice-write-sets Inv-loop μ-loop
 slice-write-sets c = search needs
 
--- src/finishing.rt:18:13
 slice-write-kinds : tie.Need-slice-write-kinds Inv-loop μ-loop
 slice-write-kinds c = search needs
 
--- src/finishing.rt:12:5
 loop-less : tie.Need-loop-less Inv-loop μ-loop
 loop-less c = search needs
 
--- src/finishing.rt:12:5
 loop-again : tie.Need-loop-again Inv-loop μ-loop
 loop-again c = (omega arith, simp length-set (c .before .before .before .loop .inv .1), simp length-set (c .before .before .before .loop .inv .2), finish-waiting _ _ _ (c .before .before .before .loop .i) (omega arith) (omega arith) (c .before .before .before .loop .inv .3) (c .if1 .taken))
 
--- src/finishing.rt:12:5
 loop-less-2 : tie.Need-loop-less-2 Inv-loop μ-loop
 loop-less-2 c = search needs
 
--- src/finishing.rt:12:5
 loop-again-2 : tie.Need-loop-again-2 Inv-loop μ-loop
 loop-again-2 c = (omega arith, c .before .before .before .loop .inv .1, c .before .before .before .loop .inv .2, finish-other _ _ _ (c .before .before .before .loop .i) (omega arith) (omega arith) (c .before .before .before .loop .inv .3) (c .if1 .left))
 
--- src/finishing.rt:7:1
 same-length : tie.Need-same-length Inv-loop μ-loop
 same-length c = c .before .loop .inv .1
 
--- src/finishing.rt:7:1
 same-length-2 : tie.Need-same-length-2 Inv-loop μ-loop
 same-length-2 c = c .before .loop .inv .2
 
--- src/finishing.rt:7:1
 returns : tie.Need-returns Inv-loop μ-loop
 returns c = let e : c .before .loop .i ≡ c .before .before .args .bound = omega arith in rw e at (c .before .loop .inv .3)
 

@@ -6,31 +6,24 @@ use Rattle.forms.proofs.form.clause_form.Reads as reads
 use Rattle.forms.proofs.form.clause_form.Lts as lts
 use Rattle.forms.proofs.form.gather.Reads as gather-reads
 
--- src/form.rt:230:9
 gather-requires : tie.Need-gather-requires
 gather-requires c κs = search needs
 
--- src/form.rt:231:26
 enum-known-a : tie.Need-enum-known-a
 enum-known-a c = search needs
 
--- src/form.rt:232:9
 enum-told : tie.Need-enum-told
 enum-told c = search needs
 
--- src/form.rt:232:9
 same-length : tie.Need-same-length
 same-length c = search needs
 
--- src/form.rt:232:9
 returns : tie.Need-returns
 returns c = clause-open (c .before .before .before .before .before .before .before .before .args .line .now) _ (c .before .before .before .before .gather .result) (c .before .before .before .before .gather .ensures) (c .enum-told .given .1)
 
--- src/form.rt:226:1
 same-length-2 : tie.Need-same-length-2
 same-length-2 c = search needs
 
--- src/form.rt:226:1
 returns-2 : tie.Need-returns-2
 returns-2 c = clause-count (c .before .before .before .before .before .before .before .before .before .args .line .now) _ (c .before .before .before .before .before .gather .result) (c .before .before .before .before .before .gather .ensures) (c .before .a .given .0 .0) (c .before .a .given .1)
 

@@ -10,33 +10,26 @@ use Rattle.forms.proofs.form.digit_at.Lts as lts
 use Rattle.forms.proofs.number.is_digit.Reads as is-digit-reads
 use Rattle.forms.proofs.number.wide.Reads as wide-reads
 
--- src/form.rt:50:9
 returns : tie.Need-returns
 returns c = digit-beyond (c .before .before .args .line .now) (c .before .before .args .i) (c .if1 .taken)
 
--- src/form.rt:52:13
 shared-slice-read-b : tie.Need-shared-slice-read-b
 shared-slice-read-b c = search needs
 
--- src/form.rt:53:8
 is-digit-requires : tie.Need-is-digit-requires
 is-digit-requires c κs = search needs
 
--- src/form.rt:54:36
 sub-wide : tie.Need-sub-wide
 sub-wide c = digit-low _ (sym (c .before .is-digit .ensures) ∙ c .if2 .taken)
 
--- src/form.rt:54:9
 wide-requires : tie.Need-wide-requires
 wide-requires c κs = search needs
 
--- src/form.rt:54:9
 returns-2 : tie.Need-returns-2
 returns-2 c =
     let s = c .before .before .before .before .before .before in
     digit-here (s .args .line .now) (s .args .i) (omega arith) (sym (c .before .before .is-digit .ensures) ∙ c .before .if2 .taken) _ (c .wide .ensures)
 
--- src/form.rt:46:1
 returns-3 : tie.Need-returns-3
 returns-3 c =
     let s = c .before .before .before .before .before in

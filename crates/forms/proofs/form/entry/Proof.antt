@@ -5,20 +5,16 @@ use Rattle.forms.proofs.form.entry.Tie as tie
 use Rattle.forms.proofs.form.entry.Reads as reads
 use Rattle.forms.proofs.form.entry.Lts as lts
 
--- src/form.rt:65:16
 mul-result : tie.Need-mul-result
 mul-result c = search needs
 
--- src/form.rt:65:16
 add-result : tie.Need-add-result
 add-result c = search needs
 
--- src/form.rt:65:9
 returns : tie.Need-returns
 unfolding ranked
 returns c = rw (c .if1 .taken)
 
--- src/form.rt:60:1
 returns-2 : tie.Need-returns-2
 unfolding ranked
 returns-2 c = rw (c .if1 .left)

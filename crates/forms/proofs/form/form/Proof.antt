@@ -6,35 +6,27 @@ use Rattle.forms.proofs.form.form.Reads as reads
 use Rattle.forms.proofs.form.form.Lts as lts
 use Rattle.forms.proofs.form.tokens_form.Reads as tokens-form-reads
 
--- src/form.rt:276:9
 returns : tie.Need-returns
 returns c = formed-empty (c .before .before .before .args .line .now) _ (c .if1 .taken)
 
--- src/form.rt:278:8
 shared-slice-read-if2 : tie.Need-shared-slice-read-if2
 shared-slice-read-if2 c = search needs
 
--- src/form.rt:279:9
 returns-2 : tie.Need-returns-2
 returns-2 c = formed-comment (c .before .before .before .before .before .args .line .now) _ (c .before .before .if1 .left) (c .if2 .taken)
 
--- src/form.rt:281:8
 shared-slice-read-if3 : tie.Need-shared-slice-read-if3
 shared-slice-read-if3 c = search needs
 
--- src/form.rt:282:9
 returns-3 : tie.Need-returns-3
 returns-3 c = formed-space (c .before .before .before .before .before .before .before .args .line .now) _ (c .before .before .before .before .if1 .left) (c .before .before .if2 .left) (c .if3 .taken)
 
--- src/form.rt:284:5
 tokens-form-requires : tie.Need-tokens-form-requires
 tokens-form-requires c κs = search needs
 
--- src/form.rt:271:1
 same-length : tie.Need-same-length
 same-length c = search needs
 
--- src/form.rt:271:1
 returns-4 : tie.Need-returns-4
 returns-4 c = formed-tokens (c .before .before .before .before .before .before .before .before .before .before .before .args .line .now) _ (c .before .before .before .before .before .before .before .before .if1 .left) (c .before .before .before .before .before .before .if2 .left) (c .before .before .before .before .if3 .left) (c .before .before .tokens-form .result) (c .before .before .tokens-form .ensures)
 

@@ -16,31 +16,24 @@ Inv-loop line i signed numbers₀ at₀ n₀ numbers at n = (at ≤ length line)
 abbrev μ-loop : tie.MeasureT-loop
 μ-loop line i signed numbers₀ at₀ n₀ numbers at n = length line - at
 
--- src/form.rt:112:5
 loop-holds : tie.Need-loop-holds Inv-loop μ-loop
 loop-holds c = (omega arith, omega arith, refl, gather-none (c .before .before .args .numbers .now) (listAt (c .before .before .args .signed) (c .before .before .args .line .now) (c .before .before .args .i)))
 
--- src/form.rt:113:13
 number-at-requires : tie.Need-number-at-requires Inv-loop μ-loop
 number-at-requires c κs = omega arith
 
--- src/form.rt:116:13
 mul-numbers : tie.Need-mul-numbers Inv-loop μ-loop
 mul-numbers c = let f = c .before .number-at .ensures .found (omega arith) in let low = f .0 in let high = f .1 in omega arith
 
--- src/form.rt:116:13
 slice-write-numbers : tie.Need-slice-write-numbers Inv-loop μ-loop
 slice-write-numbers c = let f = c .before .number-at .ensures .found (omega arith) in let low = f .0 in let high = f .1 in omega arith
 
--- src/form.rt:117:13
 add-n : tie.Need-add-n Inv-loop μ-loop
 add-n c = let f = c .before .number-at .ensures .found (omega arith) in let low = f .0 in let high = f .1 in omega arith
 
--- src/form.rt:112:5
 loop-less : tie.Need-loop-less Inv-loop μ-loop
 loop-less c = let f = c .before .number-at .ensures .found (omega arith) in let low = f .0 in let high = f .1 in omega arith
 
--- src/form.rt:112:5
 loop-again : tie.Need-loop-again Inv-loop μ-loop
 loop-again c =
     let s = c .before .before .before .before .before .before in
@@ -56,19 +49,15 @@ loop-again c =
       gather-number (s .args .signed) (s .args .line .now) (l .numbers) (l .n) (l .at) _ (omega arith) (l .inv .3) (t .result) (t .ensures) there (omega arith),
     )
 
--- src/form.rt:119:19
 shared-slice-read-if2 : tie.Need-shared-slice-read-if2 Inv-loop μ-loop
 shared-slice-read-if2 c = omega arith
 
--- src/form.rt:120:13
 add-at : tie.Need-add-at Inv-loop μ-loop
 add-at c = omega arith
 
--- src/form.rt:112:5
 loop-less-2 : tie.Need-loop-less-2 Inv-loop μ-loop
 loop-less-2 c = omega arith
 
--- src/form.rt:112:5
 loop-again-2 : tie.Need-loop-again-2 Inv-loop μ-loop
 loop-again-2 c =
     let s = c .before .before .before .before .before .before .before .before in
@@ -79,30 +68,24 @@ loop-again-2 c =
       gather-space (s .args .signed) (s .args .line .now) (l .numbers) (l .n) (l .at) _ (omega arith) (l .inv .3) (c .before .before .before .before .loop-test .taken) (c .if2 .taken),
     )
 
--- src/form.rt:122:16
 shared-slice-read-if3 : tie.Need-shared-slice-read-if3 Inv-loop μ-loop
 shared-slice-read-if3 c = omega arith
 
--- src/form.rt:123:20
 add-if4 : tie.Need-add-if4 Inv-loop μ-loop
 add-if4 c = omega arith
 
--- src/form.rt:124:21
 same-length : tie.Need-same-length Inv-loop μ-loop
 same-length c = c .before .before .before .before .before .before .before .before .loop .inv .2
 
--- src/form.rt:124:21
 returns : tie.Need-returns Inv-loop μ-loop
 returns c =
     let s = c .before .before .before .before .before .before .before .before .before .before .before in
     let l = c .before .before .before .before .before .before .before .before .loop in
     gather-done (s .args .signed) (s .args .line .now) (l .numbers) (l .n) (l .at) _ (omega arith) (l .inv .3) (c .before .before .before .before .before .before .before .loop-test .taken) (c .before .if3 .taken) (c .if4 .taken)
 
--- src/form.rt:127:13
 same-length-2 : tie.Need-same-length-2 Inv-loop μ-loop
 same-length-2 c = c .before .before .before .before .before .before .before .before .loop .inv .2
 
--- src/form.rt:127:13
 returns-2 : tie.Need-returns-2 Inv-loop μ-loop
 returns-2 c =
     let s = c .before .before .before .before .before .before .before .before .before .before .before in
@@ -110,11 +93,9 @@ returns-2 c =
     let t = c .before .before .before .before .before .before .number-at in
     gather-bad (s .args .signed) (s .args .line .now) (l .numbers) (l .n) (l .at) _ (omega arith) (l .inv .3) (t .result) (t .ensures) (omega arith) (c .before .before .before .if2 .left) (λ z e. c .if4 .left e)
 
--- src/form.rt:127:13
 same-length-3 : tie.Need-same-length-3 Inv-loop μ-loop
 same-length-3 c = c .before .before .before .before .before .before .before .loop .inv .2
 
--- src/form.rt:127:13
 returns-3 : tie.Need-returns-3 Inv-loop μ-loop
 returns-3 c =
     let s = c .before .before .before .before .before .before .before .before .before .before in
@@ -122,11 +103,9 @@ returns-3 c =
     let t = c .before .before .before .before .before .number-at in
     gather-bad (s .args .signed) (s .args .line .now) (l .numbers) (l .n) (l .at) _ (omega arith) (l .inv .3) (t .result) (t .ensures) (omega arith) (c .before .before .if2 .left) (λ z e. c .if3 .left z)
 
--- src/form.rt:106:1
 same-length-4 : tie.Need-same-length-4 Inv-loop μ-loop
 same-length-4 c = c .before .loop .inv .2
 
--- src/form.rt:106:1
 returns-4 : tie.Need-returns-4 Inv-loop μ-loop
 returns-4 c =
     let s = c .before .before .before .before in

@@ -10,99 +10,75 @@ use Rattle.forms.proofs.form.is_cnf.Reads as is-cnf-reads
 use Rattle.forms.proofs.number.number.Reads as number-reads
 use Rattle.forms.proofs.text.next_token.Reads as next-token-reads
 
--- src/form.rt:168:9
 returns : tie.Need-returns
 returns c = header-bare (c .before .before .args .line .now) (c .before .before .args .i) (c .if1 .taken)
 
--- src/form.rt:170:43
 add-next-token : tie.Need-add-next-token
 add-next-token c = search needs
 
--- src/form.rt:170:9
 next-token-requires : tie.Need-next-token-requires
 next-token-requires c κs = search needs
 
--- src/form.rt:174:9
 returns-2 : tie.Need-returns-2
 returns-2 c = header-one (c .before .before .before .before .args .line .now) (c .before .before .before .before .args .i) (omega arith) (c .before .next-token .result) (c .before .next-token .ensures) (c .if2 .taken)
 
--- src/form.rt:176:22
 sub-is-cnf : tie.Need-sub-is-cnf
 sub-is-cnf c = search needs
 
--- src/form.rt:176:22
 part-is-cnf-start : tie.Need-part-is-cnf-start
 part-is-cnf-start c = search needs
 
--- src/form.rt:176:22
 part-is-cnf-end : tie.Need-part-is-cnf-end
 part-is-cnf-end c = search needs
 
--- src/form.rt:176:9
 is-cnf-requires : tie.Need-is-cnf-requires
 is-cnf-requires c κs = search needs
 
--- src/form.rt:177:44
 add-next-token-2 : tie.Need-add-next-token-2
 add-next-token-2 c = search needs
 
--- src/form.rt:177:9
 next-token-requires-2 : tie.Need-next-token-requires-2
 next-token-requires-2 c κs = search needs
 
--- src/form.rt:181:9
 returns-3 : tie.Need-returns-3
 returns-3 c = header-two (c .before .before .before .before .before .before .before .before .args .line .now) (c .before .before .before .before .before .before .before .before .args .i) (omega arith) (c .before .before .before .before .before .next-token .result) (c .before .before .before .before .before .next-token .ensures) (omega arith) (c .before .next-token2 .result) (c .before .next-token2 .ensures) (c .if3 .taken)
 
--- src/form.rt:183:35
 sub-number : tie.Need-sub-number
 sub-number c = search needs
 
--- src/form.rt:183:35
 part-number-start : tie.Need-part-number-start
 part-number-start c = search needs
 
--- src/form.rt:183:35
 part-number-end : tie.Need-part-number-end
 part-number-end c = search needs
 
--- src/form.rt:183:9
 number-requires : tie.Need-number-requires
 number-requires c κs = search needs
 
--- src/form.rt:184:44
 add-next-token-3 : tie.Need-add-next-token-3
 add-next-token-3 c = search needs
 
--- src/form.rt:184:9
 next-token-requires-3 : tie.Need-next-token-requires-3
 next-token-requires-3 c κs = search needs
 
--- src/form.rt:188:9
 returns-4 : tie.Need-returns-4
 returns-4 c = header-many (c .before .before .before .before .before .before .before .before .before .before .before .before .args .line .now) (c .before .before .before .before .before .before .before .before .before .before .before .before .args .i) (omega arith) (c .before .before .before .before .before .before .before .before .before .next-token .result) (c .before .before .before .before .before .before .before .before .before .next-token .ensures) (omega arith) (c .before .before .before .before .before .next-token2 .result) (c .before .before .before .before .before .next-token2 .ensures) (omega arith) (c .before .next-token3 .result) (c .before .next-token3 .ensures) (c .if4 .taken)
 
--- src/form.rt:190:35
 sub-number-2 : tie.Need-sub-number-2
 sub-number-2 c = search needs
 
--- src/form.rt:190:35
 part-number-start-2 : tie.Need-part-number-start-2
 part-number-start-2 c = search needs
 
--- src/form.rt:190:35
 part-number-end-2 : tie.Need-part-number-end-2
 part-number-end-2 c = search needs
 
--- src/form.rt:190:9
 number-requires-2 : tie.Need-number-requires-2
 number-requires-2 c κs = search needs
 
--- src/form.rt:191:5
 header-shape-requires : tie.Need-header-shape-requires
 header-shape-requires c κs = search needs
 
--- src/form.rt:163:1
 returns-5 : tie.Need-returns-5
 returns-5 c = header-is (c .before .before .before .before .before .before .before .before .before .before .before .before .before .before .before .args .line .now) (c .before .before .before .before .before .before .before .before .before .before .before .before .before .before .before .args .i) (omega arith) (c .before .before .before .before .before .before .before .before .before .before .before .before .next-token .result) (c .before .before .before .before .before .before .before .before .before .before .before .before .next-token .ensures) (omega arith) (c .before .before .before .before .before .before .before .before .next-token2 .result) (c .before .before .before .before .before .before .before .before .next-token2 .ensures) (omega arith) (c .before .before .before .before .next-token3 .result) (c .before .before .before .before .next-token3 .ensures) (c .before .before .before .if4 .left) (c .before .before .before .before .before .before .before .before .before .is-cnf .result) (c .before .before .before .before .before .number .result) (c .before .number2 .result) (c .header-shape .result) (c .before .before .before .before .before .before .before .before .before .is-cnf .ensures) (c .before .before .before .before .before .number .ensures .0) (c .before .number2 .ensures .0) (c .header-shape .ensures)
 

@@ -6,31 +6,24 @@ use Rattle.forms.proofs.form.is_cnf.Tie as tie
 use Rattle.forms.proofs.form.is_cnf.Reads as reads
 use Rattle.forms.proofs.form.is_cnf.Lts as lts
 
--- src/form.rt:151:9
 returns : tie.Need-returns
 returns c = sym (cnf-length (c .before .args .token .now) (c .if1 .taken))
 
--- src/form.rt:153:8
 shared-slice-read-if2 : tie.Need-shared-slice-read-if2
 shared-slice-read-if2 c = search needs
 
--- src/form.rt:154:9
 returns-2 : tie.Need-returns-2
 returns-2 c = sym (cnf-first (c .before .before .before .args .token .now) (c .if2 .taken))
 
--- src/form.rt:156:8
 shared-slice-read-if3 : tie.Need-shared-slice-read-if3
 shared-slice-read-if3 c = search needs
 
--- src/form.rt:157:9
 returns-3 : tie.Need-returns-3
 returns-3 c = sym (cnf-second (c .before .before .before .before .before .args .token .now) (c .if3 .taken))
 
--- src/form.rt:159:5
 shared-slice-read-result : tie.Need-shared-slice-read-result
 shared-slice-read-result c = search needs
 
--- src/form.rt:147:1
 returns-4 : tie.Need-returns-4
 returns-4 c = sym (cnf-third (c .before .before .before .before .before .before .args .token .now) (c .before .before .before .before .before .if1 .left) (c .before .before .before .if2 .left) (c .before .if3 .left))
 

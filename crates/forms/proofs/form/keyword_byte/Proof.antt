@@ -5,27 +5,21 @@ use Rattle.forms.proofs.form.keyword_byte.Tie as tie
 use Rattle.forms.proofs.form.keyword_byte.Reads as reads
 use Rattle.forms.proofs.form.keyword_byte.Lts as lts
 
--- src/form.rt:139:16
 shared-slice-read-result : tie.Need-shared-slice-read-result
 shared-slice-read-result c = search needs
 
--- src/form.rt:139:9
 returns : tie.Need-returns
 returns c = keyword-one (c .before .before .args .line .now) (c .before .if1 .taken)
 
--- src/form.rt:141:8
 shared-slice-read-if2 : tie.Need-shared-slice-read-if2
 shared-slice-read-if2 c = search needs
 
--- src/form.rt:142:9
 returns-2 : tie.Need-returns-2
 returns-2 c = keyword-longer (c .before .before .before .args .line .now) (c .before .before .if1 .left) (c .if2 .taken)
 
--- src/form.rt:144:5
 shared-slice-read-result-2 : tie.Need-shared-slice-read-result-2
 shared-slice-read-result-2 c = search needs
 
--- src/form.rt:134:1
 returns-3 : tie.Need-returns-3
 returns-3 c = keyword-spaced (c .before .before .before .before .args .line .now) (c .before .if2 .left)
 

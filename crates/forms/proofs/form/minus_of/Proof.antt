@@ -4,11 +4,9 @@ use Rattle.forms.proofs.form.minus_of.Tie as tie
 use Rattle.forms.proofs.form.minus_of.Reads as reads
 use Rattle.forms.proofs.form.minus_of.Lts as lts
 
--- src/form.rt:40:9
 returns : tie.Need-returns
 returns c = minus-there (c .before .args .signed) (c .before .args .b) (c .if1 .taken)
 
--- src/form.rt:36:1
 returns-2 : tie.Need-returns-2
 returns-2 c = minus-none (c .before .args .signed) (c .before .args .b) (c .if1 .left)
 

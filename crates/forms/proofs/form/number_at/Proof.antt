@@ -21,27 +21,21 @@ Inv-loop line at signed missing minus first value₀ i₀ value i = (at < i) × 
 abbrev μ-loop : tie.MeasureT-loop
 μ-loop line at signed missing minus first value₀ i₀ value i = length line - i
 
--- src/form.rt:79:34
 shared-slice-read-minus-of : tie.Need-shared-slice-read-minus-of Inv-loop μ-loop
 shared-slice-read-minus-of c = search needs
 
--- src/form.rt:79:9
 minus-of-requires : tie.Need-minus-of-requires Inv-loop μ-loop
 minus-of-requires c κs = search needs
 
--- src/form.rt:80:22
 cast-first : tie.Need-cast-first Inv-loop μ-loop
 cast-first c = search needs
 
--- src/form.rt:80:17
 add-first : tie.Need-add-first Inv-loop μ-loop
 add-first c = search needs
 
--- src/form.rt:81:9
 digit-at-requires : tie.Need-digit-at-requires Inv-loop μ-loop
 digit-at-requires c κs = search needs
 
--- src/form.rt:83:9
 returns : tie.Need-returns Inv-loop μ-loop
 returns c =
     let s = c .before .before .before .before .before in
@@ -49,11 +43,9 @@ returns c =
     let digit = c .before .digit-at in
     leading-missing (s .args .signed) (s .args .line .now) (s .args .at) (minus .result) (omega arith) (minus .ensures) _ (digit .result) refl (digit .ensures) (c .if1 .taken)
 
--- src/form.rt:85:17
 add-i : tie.Need-add-i Inv-loop μ-loop
 add-i c = search needs
 
--- src/form.rt:86:5
 loop-holds : tie.Need-loop-holds Inv-loop μ-loop
 loop-holds c =
     let s = c .before .before .before .before .before in
@@ -69,22 +61,18 @@ loop-holds c =
       number-begins (s .args .signed) (s .args .line .now) (s .args .at) (minus .result) (omega arith) (minus .ensures) _ (digit .result) refl (digit .ensures) there,
     )
 
--- src/form.rt:87:17
 shared-slice-read-b : tie.Need-shared-slice-read-b Inv-loop μ-loop
 shared-slice-read-b c = search needs
 
--- src/form.rt:88:9
 add-i-2 : tie.Need-add-i-2 Inv-loop μ-loop
 add-i-2 c = search needs
 
--- src/form.rt:90:17
 entry-requires : tie.Need-entry-requires Inv-loop μ-loop
 entry-requires c κs =
     let s = c .before .before .before .before .before .before .before .before .before in
     let minus = c .before .before .before .before .before .before .minus-of in
     let one = minus-le (s .args .signed) (s .args .line .now) (s .args .at) (minus .result) (omega arith) (minus .ensures) in (omega arith, omega arith)
 
--- src/form.rt:91:13
 returns-2 : tie.Need-returns-2 Inv-loop μ-loop
 returns-2 c =
     let s = c .before .before .before .before .before .before .before .before .before .before in
@@ -92,30 +80,24 @@ returns-2 c =
     let l = c .before .before .before .before .loop in
     leading-found (s .args .signed) (s .args .line .now) (s .args .at) (l .i) (l .value) (minus .result) (l .inv .4) (c .before .before .before .loop-test .taken) (l .inv .2) (l .inv .0) (c .before .if2 .taken) _ (c .entry .ensures)
 
--- src/form.rt:93:12
 is-digit-requires : tie.Need-is-digit-requires Inv-loop μ-loop
 is-digit-requires c κs = search needs
 
--- src/form.rt:94:21
 mul-value : tie.Need-mul-value Inv-loop μ-loop
 mul-value c = search needs
 
--- src/form.rt:94:54
 sub-wide : tie.Need-sub-wide Inv-loop μ-loop
 sub-wide c = digit-low _ (sym (c .before .is-digit .ensures) ∙ c .if3 .taken)
 
--- src/form.rt:94:34
 wide-requires : tie.Need-wide-requires Inv-loop μ-loop
 wide-requires c κs = search needs
 
--- src/form.rt:94:21
 add-value : tie.Need-add-value Inv-loop μ-loop
 add-value c =
     let l = c .before .before .before .before .before .before .loop in
     let high = digit-high _ (sym (c .before .before .is-digit .ensures) ∙ c .before .if3 .taken) in
     let d = c .wide .ensures in omega arith
 
--- src/form.rt:96:13
 returns-3 : tie.Need-returns-3 Inv-loop μ-loop
 returns-3 c =
     let s = c .before .before .before .before .before .before .before .before .before .before .before in
@@ -123,7 +105,6 @@ returns-3 c =
     let l = c .before .before .before .before .before .loop in
     leading-bad (s .args .signed) (s .args .line .now) (s .args .at) (l .i) (l .value) (minus .result) (l .inv .4) (c .before .before .before .before .loop-test .taken) (l .inv .2) (sym (c .before .is-digit .ensures) ∙ c .if3 .left) (c .before .before .if2 .left)
 
--- src/form.rt:99:13
 returns-4 : tie.Need-returns-4 Inv-loop μ-loop
 returns-4 c =
     let s = c .before .before .before .before .before .before .before .before .before .before .before .before .before in
@@ -132,11 +113,9 @@ returns-4 c =
     let digit = sym (c .before .before .before .is-digit .ensures) ∙ c .before .before .if3 .taken in
     leading-long (s .args .signed) (s .args .line .now) (s .args .at) (l .i) (l .value) (minus .result) (l .inv .4) (c .before .before .before .before .before .before .loop-test .taken) (l .inv .2) (c .before .wide .result) (c .before .wide .ensures) digit (c .if4 .taken)
 
--- src/form.rt:86:5
 loop-less : tie.Need-loop-less Inv-loop μ-loop
 loop-less c = search needs
 
--- src/form.rt:86:5
 loop-again : tie.Need-loop-again Inv-loop μ-loop
 loop-again c =
     let s = c .before .before .before .before .before .before .before .before .before .before .before .before .before in
@@ -150,7 +129,6 @@ loop-again c =
       leading-digit (s .args .signed) (s .args .line .now) (s .args .at) (l .i) (l .value) (minus .result) (l .inv .4) (c .before .before .before .before .before .before .loop-test .taken) (l .inv .2) (c .before .wide .result) (c .before .wide .ensures) digit (omega arith),
     )
 
--- src/form.rt:71:1
 returns-5 : tie.Need-returns-5 Inv-loop μ-loop
 returns-5 c =
     let s = c .before .before .before .before .before .before .before in

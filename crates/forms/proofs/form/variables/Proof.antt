@@ -7,39 +7,30 @@ use Rattle.forms.proofs.form.variables.Reads as reads
 use Rattle.forms.proofs.form.variables.Lts as lts
 use Rattle.forms.proofs.form.gather.Reads as gather-reads
 
--- src/form.rt:216:9
 returns : tie.Need-returns
 returns c = variables-end (c .before .before .before .args .line .now) (c .before .before .before .args .i) _ (c .if1 .taken)
 
--- src/form.rt:218:26
 add-gather : tie.Need-add-gather
 add-gather c = search needs
 
--- src/form.rt:218:9
 gather-requires : tie.Need-gather-requires
 gather-requires c κs = search needs
 
--- src/form.rt:219:26
 enum-known-a : tie.Need-enum-known-a
 enum-known-a c = search needs
 
--- src/form.rt:220:9
 enum-told : tie.Need-enum-told
 enum-told c = search needs
 
--- src/form.rt:220:9
 same-length : tie.Need-same-length
 same-length c = search needs
 
--- src/form.rt:220:9
 returns-2 : tie.Need-returns-2
 returns-2 c = variables-open (c .before .before .before .before .before .before .before .before .before .args .line .now) (c .before .before .before .before .before .before .before .before .before .args .i) _ (omega arith) (c .before .before .before .before .gather .result) (c .before .before .before .before .gather .ensures) (c .enum-told .given .1)
 
--- src/form.rt:211:1
 same-length-2 : tie.Need-same-length-2
 same-length-2 c = search needs
 
--- src/form.rt:211:1
 returns-3 : tie.Need-returns-3
 returns-3 c = variables-count (c .before .before .before .before .before .before .before .before .before .before .args .line .now) (c .before .before .before .before .before .before .before .before .before .before .args .i) _ (omega arith) (c .before .before .before .before .before .gather .result) (c .before .before .before .before .before .gather .ensures) (c .before .a .given .0 .0) (c .before .a .given .1)
 

@@ -18,45 +18,35 @@ Inv-loop token v₀ i₀ v i = (i ≤ length token) × (v < 10 ^ i) × (digitsFr
 abbrev μ-loop : tie.MeasureT-loop
 μ-loop token v₀ i₀ v i = length token - i
 
--- src/number.rt:28:5
 loop-holds : tie.Need-loop-holds Inv-loop μ-loop
 loop-holds c = (omega arith, omega arith, refl)
 
--- src/number.rt:29:17
 shared-slice-read-b : tie.Need-shared-slice-read-b Inv-loop μ-loop
 shared-slice-read-b c = omega arith
 
--- src/number.rt:31:13
 returns : tie.Need-returns Inv-loop μ-loop
 unfolding plusOne
 returns c = (sym (ap plusOne (c .before .before .before .loop .inv .2 ∙ digits-low (c .before .before .before .loop .v) (c .before .before .before .before .before .args .token .now) (c .before .before .before .loop .i) (c .before .before .loop-test .taken) (c .if1 .taken))), omega arith)
 
--- src/number.rt:34:13
 returns-2 : tie.Need-returns-2 Inv-loop μ-loop
 unfolding plusOne
 returns-2 c = (sym (ap plusOne (c .before .before .before .before .loop .inv .2 ∙ digits-high (c .before .before .before .before .loop .v) (c .before .before .before .before .before .before .args .token .now) (c .before .before .before .before .loop .i) (c .before .before .before .loop-test .taken) (omega arith) (c .if2 .taken))), omega arith)
 
--- src/number.rt:36:13
 mul-v : tie.Need-mul-v Inv-loop μ-loop
 mul-v c = omega (arith, ten-fits (c .before .before .before .before .loop .v) (c .before .before .before .before .loop .i) (length (c .before .before .before .before .before .before .args .token .now)) (c .before .before .before .before .loop .inv .1) (c .before .before .before .loop-test .taken) (c .before .before .before .before .before .before .pre))
 
--- src/number.rt:36:22
 wide-requires : tie.Need-wide-requires Inv-loop μ-loop
 wide-requires c κs = search needs
 
--- src/number.rt:36:13
 add-v : tie.Need-add-v Inv-loop μ-loop
 add-v c = omega (arith, ten-fits (c .before .before .before .before .before .loop .v) (c .before .before .before .before .before .loop .i) (length (c .before .before .before .before .before .before .before .args .token .now)) (c .before .before .before .before .before .loop .inv .1) (c .before .before .before .before .loop-test .taken) (c .before .before .before .before .before .before .before .pre))
 
--- src/number.rt:37:9
 add-i : tie.Need-add-i Inv-loop μ-loop
 add-i c = omega arith
 
--- src/number.rt:28:5
 loop-less : tie.Need-loop-less Inv-loop μ-loop
 loop-less c = omega arith
 
--- src/number.rt:28:5
 loop-again : tie.Need-loop-again Inv-loop μ-loop
 loop-again c =
     let w = c .before .before .before .before .before .before .before .args .token .now in
@@ -64,11 +54,9 @@ loop-again c =
     let e : c .wide .result ≡ getD w (v .i) 0 - 48 = c .wide .ensures in
     (omega arith, ten-more (v .i) (v .v) (c .wide .result) (v .inv .1) (omega arith), v .inv .2 ∙ digits-more (v .v) w (v .i) (c .before .before .before .before .loop-test .taken) (c .before .before .if1 .left) (c .before .if2 .left) ∙ rw e)
 
--- src/number.rt:39:5
 add-result : tie.Need-add-result Inv-loop μ-loop
 add-result c = omega (arith, ten-le (c .before .loop .i) digitLimit (omega arith))
 
--- src/number.rt:22:1
 returns-3 : tie.Need-returns-3 Inv-loop μ-loop
 unfolding plusOne
 returns-3 c = (sym (ap plusOne (c .before .loop .inv .2 ∙ digits-end (c .before .loop .v) (c .before .before .before .args .token .now) (c .before .loop .i) (omega arith))), omega (arith, ten-le (c .before .loop .i) digitLimit (omega arith)))

@@ -5,7 +5,6 @@ use Rattle.forms.proofs.number.is_digit.Tie as tie
 use Rattle.forms.proofs.number.is_digit.Reads as reads
 use Rattle.forms.proofs.number.is_digit.Lts as lts
 
--- src/number.rt:15:1
 returns : tie.Need-returns
 unfolding isDigit
 returns c = refl

@@ -16,31 +16,24 @@ Inv-loop bytes i n b found₀ k₀ found k = (k ≤ n) × (found ≡ ltb (length
 abbrev μ-loop : tie.MeasureT-loop
 μ-loop bytes i n b found₀ k₀ found k = n - k
 
--- src/text.rt:31:5
 loop-holds : tie.Need-loop-holds Inv-loop μ-loop
 loop-holds c = (omega arith, block-none (c .args .b) (c .args .bytes .now) (c .args .i))
 
--- src/text.rt:32:18
 add-at : tie.Need-add-at Inv-loop μ-loop
 add-at c = omega arith
 
--- src/text.rt:33:26
 shared-slice-read-found : tie.Need-shared-slice-read-found Inv-loop μ-loop
 shared-slice-read-found c = omega arith
 
--- src/text.rt:34:9
 add-k : tie.Need-add-k Inv-loop μ-loop
 add-k c = omega arith
 
--- src/text.rt:31:5
 loop-less : tie.Need-loop-less Inv-loop μ-loop
 loop-less c = omega arith
 
--- src/text.rt:31:5
 loop-again : tie.Need-loop-again Inv-loop μ-loop
 loop-again c = (omega arith, block-more (c .before .before .before .args .b) (c .before .before .before .args .bytes .now) (c .before .before .before .args .i) (c .before .before .loop .k) (c .before .before .loop .found) (c .before .before .loop .inv .1) (omega arith))
 
--- src/text.rt:25:1
 returns : tie.Need-returns Inv-loop μ-loop
 returns c =
     let s = c .before .before in

@@ -17,40 +17,32 @@ Inv-loop bytes b i₀ i = (i ≤ length bytes) × (lengthBefore b bytes ≡ i + 
 abbrev μ-loop : tie.MeasureT-loop
 μ-loop bytes b i₀ i = length bytes - i
 
--- src/text.rt:45:5
 loop-holds : tie.Need-loop-holds Inv-loop μ-loop
 loop-holds c = (omega arith, omega arith)
 
--- src/text.rt:45:11
 sub-loop : tie.Need-sub-loop Inv-loop μ-loop
 sub-loop c = omega arith
 
--- src/text.rt:46:12
 block-has-requires : tie.Need-block-has-requires Inv-loop μ-loop
 block-has-requires c κs = omega arith
 
--- src/text.rt:47:13
 returns : tie.Need-returns Inv-loop μ-loop
 returns c =
     let l = c .before .before .before .loop in
     (l .inv .0, l .inv .1, λ h. ltb-true _ 16 (sym (c .before .block-has .ensures) ∙ c .if1 .taken))
 
--- src/text.rt:49:9
 add-i : tie.Need-add-i Inv-loop μ-loop
 add-i c = omega arith
 
--- src/text.rt:45:5
 loop-less : tie.Need-loop-less Inv-loop μ-loop
 loop-less c = omega arith
 
--- src/text.rt:45:5
 loop-again : tie.Need-loop-again Inv-loop μ-loop
 loop-again c =
     let s = c .before .before .before .before .before in
     let l = c .before .before .before .loop in
     let e = before-pass (s .args .b) (s .args .bytes .now) (l .i) 16 (ltb-false _ 16 (sym (c .before .block-has .ensures) ∙ c .if1 .left)) in (omega arith, omega arith)
 
--- src/text.rt:40:1
 returns-2 : tie.Need-returns-2 Inv-loop μ-loop
 returns-2 c = (c .before .loop .inv .0, c .before .loop .inv .1, λ h. absurd (omega arith))
 

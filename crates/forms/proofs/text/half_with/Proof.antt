@@ -8,19 +8,15 @@ use Rattle.forms.proofs.text.half_with.Reads as reads
 use Rattle.forms.proofs.text.half_with.Lts as lts
 use Rattle.forms.proofs.text.block_has.Reads as block-has-reads
 
--- src/text.rt:59:8
 block-has-requires : tie.Need-block-has-requires
 block-has-requires c κs = omega arith
 
--- src/text.rt:60:9
 returns : tie.Need-returns
 returns c = let less = ltb-true _ _ (sym (c .before .block-has .ensures) ∙ c .if1 .taken) in (omega arith, refl, less)
 
--- src/text.rt:62:5
 add-result : tie.Need-add-result
 add-result c = omega arith
 
--- src/text.rt:55:1
 returns-2 : tie.Need-returns-2
 returns-2 c =
     let s = c .before .before .before in

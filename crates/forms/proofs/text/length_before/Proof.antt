@@ -15,31 +15,24 @@ Inv-loop bytes b i₀ i = (i ≤ length bytes) × (lengthBefore b bytes ≡ i + 
 abbrev μ-loop : tie.MeasureT-loop
 μ-loop bytes b i₀ i = length bytes - i
 
--- src/text.rt:15:5
 loop-holds : tie.Need-loop-holds Inv-loop μ-loop
 loop-holds c = (omega arith, omega arith)
 
--- src/text.rt:16:12
 shared-slice-read-if1 : tie.Need-shared-slice-read-if1 Inv-loop μ-loop
 shared-slice-read-if1 c = omega arith
 
--- src/text.rt:17:13
 returns : tie.Need-returns Inv-loop μ-loop
 returns c = omega (arith, before-hit (c .before .before .before .before .args .b) (c .before .before .before .before .args .bytes .now) (c .before .before .before .loop .i) (c .before .before .loop-test .taken) (c .if1 .taken))
 
--- src/text.rt:19:9
 add-i : tie.Need-add-i Inv-loop μ-loop
 add-i c = omega arith
 
--- src/text.rt:15:5
 loop-less : tie.Need-loop-less Inv-loop μ-loop
 loop-less c = omega arith
 
--- src/text.rt:15:5
 loop-again : tie.Need-loop-again Inv-loop μ-loop
 loop-again c = (omega arith, omega (arith, before-miss (c .before .before .before .before .args .b) (c .before .before .before .before .args .bytes .now) (c .before .before .before .loop .i) (c .before .before .loop-test .taken) (c .if1 .left)))
 
--- src/text.rt:11:1
 returns-2 : tie.Need-returns-2 Inv-loop μ-loop
 returns-2 c = omega (arith, before-end (c .before .before .args .b) (c .before .before .args .bytes .now) (c .before .loop .i) (omega arith))
 

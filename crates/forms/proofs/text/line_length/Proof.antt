@@ -10,49 +10,39 @@ use Rattle.forms.proofs.text.blocks_before.Reads as blocks-before-reads
 use Rattle.forms.proofs.text.length_before.Reads as length-before-reads
 use Rattle.forms.proofs.text.place_in_block.Reads as place-in-block-reads
 
--- src/text.rt:80:9
 blocks-before-requires : tie.Need-blocks-before-requires
 blocks-before-requires c κs = search needs
 
--- src/text.rt:81:8
 sub-if1 : tie.Need-sub-if1
 sub-if1 c = search needs
 
--- src/text.rt:82:39
 sub-length-before : tie.Need-sub-length-before
 sub-length-before c = search needs
 
--- src/text.rt:82:39
 part-length-before-start : tie.Need-part-length-before-start
 part-length-before-start c = search needs
 
--- src/text.rt:82:39
 part-length-before-end : tie.Need-part-length-before-end
 part-length-before-end c = search needs
 
--- src/text.rt:82:25
 length-before-requires : tie.Need-length-before-requires
 length-before-requires c κs = search needs
 
--- src/text.rt:82:16
 add-result : tie.Need-add-result
 add-result c =
     let s = c .before .before .before .before .before in
     let passed = c .before .before .before .blocks-before in
     omega (arith, line-behind (s .args .text .now) (passed .result) (c .length-before .result) (passed .ensures .0) (c .length-before .ensures))
 
--- src/text.rt:82:9
 returns : tie.Need-returns
 returns c =
     let s = c .before .before .before .before .before in
     let passed = c .before .before .before .blocks-before in
     line-passed (s .args .text .now) (passed .result) (c .length-before .result) (passed .ensures .1) (c .length-before .ensures)
 
--- src/text.rt:84:5
 place-in-block-requires : tie.Need-place-in-block-requires
 place-in-block-requires c κs = (omega arith, c .before .blocks-before .ensures .2 (omega arith))
 
--- src/text.rt:77:1
 returns-2 : tie.Need-returns-2
 returns-2 c = c .place-in-block .ensures ∙ sym (c .before .before .blocks-before .ensures .1) ∙ line-is (c .before .before .before .before .args .text .now)
 

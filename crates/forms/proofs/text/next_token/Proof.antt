@@ -8,47 +8,36 @@ use Rattle.forms.proofs.text.next_token.Lts as lts
 use Rattle.forms.proofs.text.leading_spaces.Reads as leading-spaces-reads
 use Rattle.forms.proofs.text.length_before.Reads as length-before-reads
 
--- src/text.rt:112:35
 sub-leading-spaces : tie.Need-sub-leading-spaces
 sub-leading-spaces c = search needs
 
--- src/text.rt:112:35
 part-leading-spaces-start : tie.Need-part-leading-spaces-start
 part-leading-spaces-start c = search needs
 
--- src/text.rt:112:35
 part-leading-spaces-end : tie.Need-part-leading-spaces-end
 part-leading-spaces-end c = search needs
 
--- src/text.rt:112:20
 leading-spaces-requires : tie.Need-leading-spaces-requires
 leading-spaces-requires c κs = search needs
 
--- src/text.rt:112:16
 add-from : tie.Need-add-from
 add-from c = omega (arith, token-begins (c .before .before .before .args .line .now) (c .before .before .before .args .i) (c .leading-spaces .result) (c .before .before .before .pre) (c .leading-spaces .ensures))
 
--- src/text.rt:113:35
 sub-length-before : tie.Need-sub-length-before
 sub-length-before c = omega (arith, token-begins (c .before .before .before .args .line .now) (c .before .before .before .args .i) (c .leading-spaces .result) (c .before .before .before .pre) (c .leading-spaces .ensures))
 
--- src/text.rt:113:35
 part-length-before-start : tie.Need-part-length-before-start
 part-length-before-start c = omega (arith, token-begins (c .before .before .before .args .line .now) (c .before .before .before .args .i) (c .leading-spaces .result) (c .before .before .before .pre) (c .leading-spaces .ensures))
 
--- src/text.rt:113:35
 part-length-before-end : tie.Need-part-length-before-end
 part-length-before-end c = search needs
 
--- src/text.rt:113:21
 length-before-requires : tie.Need-length-before-requires
 length-before-requires c κs = search needs
 
--- src/text.rt:113:14
 add-to : tie.Need-add-to
 add-to c = omega (arith, token-ends (c .before .before .before .before .before .args .line .now) (c .before .before .before .before .before .args .i) (c .before .before .leading-spaces .result) (c .before .before .before .before .before .pre) (c .before .before .leading-spaces .ensures) (c .length-before .result) (c .length-before .ensures))
 
--- src/text.rt:108:1
 returns : tie.Need-returns
 returns c = token-cut (c .before .before .before .before .before .args .line .now) (c .before .before .before .before .before .args .i) (c .before .before .leading-spaces .result) (c .before .before .before .before .before .pre) (c .before .before .leading-spaces .ensures) (c .length-before .result) (c .length-before .ensures)
 

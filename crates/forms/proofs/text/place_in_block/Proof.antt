@@ -5,23 +5,18 @@ use Rattle.forms.proofs.text.place_in_block.Reads as reads
 use Rattle.forms.proofs.text.place_in_block.Lts as lts
 use Rattle.forms.proofs.text.half_with.Reads as half-with-reads
 
--- src/text.rt:70:9
 half-with-requires : tie.Need-half-with-requires
 half-with-requires c κs = (omega arith, c .before .pre .1)
 
--- src/text.rt:71:9
 half-with-requires-2 : tie.Need-half-with-requires-2
 half-with-requires-2 c κs = (omega arith, c .half-with .ensures .2)
 
--- src/text.rt:72:9
 half-with-requires-3 : tie.Need-half-with-requires-3
 half-with-requires-3 c κs = (omega arith, c .half-with2 .ensures .2)
 
--- src/text.rt:73:5
 half-with-requires-4 : tie.Need-half-with-requires-4
 half-with-requires-4 c κs = (omega arith, c .half-with3 .ensures .2)
 
--- src/text.rt:66:1
 returns : tie.Need-returns
 returns c =
     let less = c .half-with4 .ensures .2 in

@@ -17,23 +17,18 @@ Inv-loop n count₀ rest₀ count rest = (count + length (digitsOf rest) ≡ len
 abbrev μ-loop : tie.MeasureT-loop
 μ-loop n count₀ rest₀ count rest = rest
 
--- src/digits.rt:14:5
 loop-holds : tie.Need-loop-holds Inv-loop μ-loop
 loop-holds c = (omega arith, omega arith)
 
--- src/digits.rt:16:9
 add-count : tie.Need-add-count Inv-loop μ-loop
 add-count c = search needs
 
--- src/digits.rt:14:5
 loop-less : tie.Need-loop-less Inv-loop μ-loop
 loop-less c = search needs
 
--- src/digits.rt:14:5
 loop-again : tie.Need-loop-again Inv-loop μ-loop
 loop-again c = let l = c .before .loop in (omega (arith, l .inv .0, length-more (l .rest) (c .loop-test .taken)), omega (arith, l .inv .1, c .loop-test .taken))
 
--- src/digits.rt:9:1
 returns : tie.Need-returns Inv-loop μ-loop
 returns c = let l = c .before .loop in omega (arith, l .inv .0, length-one (l .rest) (c .loop-test .left))
 

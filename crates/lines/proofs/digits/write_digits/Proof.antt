@@ -21,35 +21,27 @@ Inv-loop out₀ n count at₀ rest₀ out at rest =
 abbrev μ-loop : tie.MeasureT-loop
 μ-loop out₀ n count at₀ rest₀ out at rest = at
 
--- src/digits.rt:26:9
 digit-count-requires : tie.Need-digit-count-requires Inv-loop μ-loop
 digit-count-requires c κs = tt
 
--- src/digits.rt:29:5
 loop-holds : tie.Need-loop-holds Inv-loop μ-loop
 loop-holds c = (omega arith, refl, refl, back-start (c .digit-count .result) (c .before .before .args .n) (c .before .before .args .out .now))
 
--- src/digits.rt:30:9
 sub-at : tie.Need-sub-at Inv-loop μ-loop
 sub-at c = search needs
 
--- src/digits.rt:31:24
 cast-out : tie.Need-cast-out Inv-loop μ-loop
 cast-out c = search needs
 
--- src/digits.rt:31:19
 add-out : tie.Need-add-out Inv-loop μ-loop
 add-out c = search needs
 
--- src/digits.rt:31:9
 slice-write-out : tie.Need-slice-write-out Inv-loop μ-loop
 slice-write-out c = search needs
 
--- src/digits.rt:29:5
 loop-less : tie.Need-loop-less Inv-loop μ-loop
 loop-less c = search needs
 
--- src/digits.rt:29:5
 loop-again : tie.Need-loop-again Inv-loop μ-loop
 loop-again c =
     let l = c .before .loop in
@@ -63,11 +55,9 @@ loop-again c =
       back-turn (k .result) (a .args .n) (l .at) (l .rest) (l .out) (c .loop-test .taken) (l .inv .0) room (l .inv .3),
     )
 
--- src/digits.rt:22:1
 same-length : tie.Need-same-length Inv-loop μ-loop
 same-length c = search needs
 
--- src/digits.rt:22:1
 returns : tie.Need-returns Inv-loop μ-loop
 returns c =
     let l = c .before .loop in

@@ -5,47 +5,36 @@ use Rattle.prefix_lines.proofs.declarations.declare.Tie as tie
 use Rattle.prefix_lines.proofs.declarations.declare.Reads as reads
 use Rattle.prefix_lines.proofs.declarations.declare.Lts as lts
 
--- src/declarations.rt:31:9
 returns : tie.Need-returns
 returns c = declared-above _ _ _ _ _ _ (c .if1 .taken)
 
--- src/declarations.rt:33:18
 sub-place : tie.Need-sub-place
 sub-place c = search needs
 
--- src/declarations.rt:33:17
 cast-place : tie.Need-cast-place
 cast-place c = search needs
 
--- src/declarations.rt:34:8
 slice-read-if2 : tie.Need-slice-read-if2
 slice-read-if2 c = search needs
 
--- src/declarations.rt:35:9
 returns-2 : tie.Need-returns-2
 returns-2 c = declared-twice _ _ _ _ _ _ (c .if2 .taken)
 
--- src/declarations.rt:37:5
 mul-sets : tie.Need-mul-sets
 mul-sets c = search needs
 
--- src/declarations.rt:37:5
 slice-write-sets : tie.Need-slice-write-sets
 slice-write-sets c = search needs
 
--- src/declarations.rt:38:5
 slice-write-kinds : tie.Need-slice-write-kinds
 slice-write-kinds c = search needs
 
--- src/declarations.rt:19:1
 same-length : tie.Need-same-length
 same-length c = search needs
 
--- src/declarations.rt:19:1
 same-length-2 : tie.Need-same-length-2
 same-length-2 c = search needs
 
--- src/declarations.rt:19:1
 returns-3 : tie.Need-returns-3
 returns-3 c = declared-new _ _ _ _ _ _ (c .before .before .if1 .left) (c .if2 .left)
 

@@ -21,55 +21,42 @@ Inv-loop variables universal sets₀ kinds₀ progress₀ i₀ sets kinds progre
 abbrev μ-loop : tie.MeasureT-loop
 μ-loop variables universal sets₀ kinds₀ progress₀ i₀ sets kinds progress i = length variables - i
 
--- src/declarations.rt:104:5
 loop-holds : tie.Need-loop-holds Inv-loop μ-loop
 loop-holds c = (omega arith, refl, refl, refl, omega arith, λ t r l e h inside. all-start (c .before .before .before .args .universal) (c .before .before .before .args .variables .now) t r inside h)
 
--- src/declarations.rt:105:24
 mul-variable : tie.Need-mul-variable Inv-loop μ-loop
 mul-variable c = search needs
 
--- src/declarations.rt:105:24
 shared-slice-read-variable : tie.Need-shared-slice-read-variable Inv-loop μ-loop
 shared-slice-read-variable c = search needs
 
--- src/declarations.rt:106:9
 add-i : tie.Need-add-i Inv-loop μ-loop
 add-i c = search needs
 
--- src/declarations.rt:107:13
 declare-one-requires : tie.Need-declare-one-requires Inv-loop μ-loop
 declare-one-requires c κs = (c .before .before .before .before .before .before .before .before .pre .0 (c .before .before .before .before .loop .i) (c .before .before .before .loop-test .taken), omega arith, omega arith, λ u. omega (arith, c .before .before .before .before .before .before .before .before .pre .3 u))
 
--- src/declarations.rt:109:13
 same-length : tie.Need-same-length Inv-loop μ-loop
 same-length c = c .before .before .before .before .before .before .declare-one .kept .1 .1 .1 .0 ∙ c .before .before .before .before .before .before .before .before .before .before .before .loop .inv .1
 
--- src/declarations.rt:109:13
 same-length-2 : tie.Need-same-length-2 Inv-loop μ-loop
 same-length-2 c = c .before .before .before .before .before .before .declare-one .kept .1 .1 .1 .1 .0 ∙ c .before .before .before .before .before .before .before .before .before .before .before .loop .inv .2
 
--- src/declarations.rt:109:13
 returns : tie.Need-returns Inv-loop μ-loop
 returns c = λ t r l e h inside. all-refused _ _ t r (c .before .before .before .before .before .before .before .before .before .before .before .loop .i) (c .before .before .before .before .before .before .before .before .before .before .loop-test .taken) (c .before .before .before .before .before .before .before .before .before .before .before .loop .inv .5 t r l e h inside) (λ q. c .before .before .before .before .before .before .declare-one .ensures .1 t q l e) (c .if1 .taken)
 
--- src/declarations.rt:104:5
 loop-less : tie.Need-loop-less Inv-loop μ-loop
 loop-less c = search needs
 
--- src/declarations.rt:104:5
 loop-again : tie.Need-loop-again Inv-loop μ-loop
 loop-again c = (omega arith, c .before .before .before .before .before .before .before .declare-one .kept .1 .1 .1 .0 ∙ c .before .before .before .before .before .before .before .before .before .before .before .before .loop .inv .1, c .before .before .before .before .before .before .before .declare-one .kept .1 .1 .1 .1 .0 ∙ c .before .before .before .before .before .before .before .before .before .before .before .before .loop .inv .2, c .before .before .before .before .before .before .before .declare-one .ensures .0 .bound ∙ c .before .before .before .before .before .before .before .before .before .before .before .before .loop .inv .3, omega (arith, c .before .before .before .before .before .before .before .declare-one .ensures .0 .universals), λ t r l e h inside. all-next _ _ t r (c .before .before .before .before .before .before .before .before .before .before .before .before .loop .i) (c .before .before .before .before .before .before .before .before .before .before .before .loop-test .taken) (c .before .before .before .before .before .before .before .before .before .before .before .before .loop .inv .5 t r l e h inside) (λ q. c .before .before .before .before .before .before .before .declare-one .ensures .1 t q l e) (c .before .if1 .left))
 
--- src/declarations.rt:88:1
 same-length-3 : tie.Need-same-length-3 Inv-loop μ-loop
 same-length-3 c = c .before .loop .inv .1
 
--- src/declarations.rt:88:1
 same-length-4 : tie.Need-same-length-4 Inv-loop μ-loop
 same-length-4 c = c .before .loop .inv .2
 
--- src/declarations.rt:88:1
 returns-2 : tie.Need-returns-2 Inv-loop μ-loop
 returns-2 c = λ t r l e h inside. all-done _ _ t r (c .before .loop .i) (c .loop-test .left) (c .before .loop .inv .5 t r l e h inside)
 

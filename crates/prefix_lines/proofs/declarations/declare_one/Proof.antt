@@ -11,83 +11,63 @@ use Rattle.prefix_lines.proofs.declarations.declare.Reads as declare-re
 use Rattle.prefix_lines.proofs.progress.add_universal.Reads as add-universal-reads
 use Rattle.prefix_lines.proofs.progress.refused.Reads as refused-reads
 
--- src/declarations.rt:63:28
 cast-set : tie.Need-cast-set
 cast-set c = search needs
 
--- src/declarations.rt:63:28
 cast-set-2 : tie.Need-cast-set-2
 cast-set-2 c = search needs
 
--- src/declarations.rt:63:19
 shl-set : tie.Need-shl-set
 shl-set c = omega (arith, c .before .before .before .before .before .before .pre .3 (c .before .if1 .taken))
 
--- src/declarations.rt:64:13
 declare-requires : tie.Need-declare-requires
 declare-requires c κs = search needs
 
--- src/declarations.rt:65:13
 refused-requires : tie.Need-refused-requires
 refused-requires c κs = search needs
 
--- src/declarations.rt:65:13
 same-length : tie.Need-same-length
 same-length c = c .before .before .before .before .before .before .declare .kept .1 .1 .1 .1 .0
 
--- src/declarations.rt:65:13
 same-length-2 : tie.Need-same-length-2
 same-length-2 c = c .before .before .before .before .before .before .declare .kept .1 .1 .1 .1 .1 .0
 
--- src/declarations.rt:65:13
 returns : tie.Need-returns
 returns c = rw (c .refused .ensures) (one-same (c .before .before .before .before .before .before .before .before .before .before .before .before .before .before .before .args .progress) 12, λ t r l e h inside. one-refused h inside (c .before .before .before .before .before .before .before .before .before .before .before .before .before .before .before .args .variable) (omega arith) (c .before .before .before .before .before .before .declare .ensures .told) (c .before .before .before .before .before .before .before .before .before .before .before .before .before .before .before .args .universal) 1 _ (c .before .if2 .taken) (c .before .before .before .before .before .before .declare .ensures .sets-are) (c .before .before .before .before .before .before .declare .ensures .kinds-are))
 
--- src/declarations.rt:67:13
 add-universal-requires : tie.Need-add-universal-requires
 add-universal-requires c κs = c .before .before .before .before .before .before .before .before .before .before .before .before .before .before .pre .3 (c .before .before .before .before .before .before .before .before .before .if1 .taken)
 
--- src/declarations.rt:68:9
 same-length-3 : tie.Need-same-length-3
 same-length-3 c = c .before .before .before .before .before .before .declare .kept .1 .1 .1 .1 .0
 
--- src/declarations.rt:68:9
 same-length-4 : tie.Need-same-length-4
 same-length-4 c = c .before .before .before .before .before .before .declare .kept .1 .1 .1 .1 .1 .0
 
--- src/declarations.rt:68:9
 returns-2 : tie.Need-returns-2
 returns-2 c = let few = c .before .before .before .before .before .before .before .before .before .before .before .before .before .before .before .pre .3 (c .before .before .before .before .before .before .before .before .before .before .if1 .taken) in let w = one-shifted (c .before .before .before .before .before .before .before .before .before .before .before .before .before .before .before .args .progress .state .universals) few in (one-added (c .before .before .before .before .before .before .before .before .before .before .before .before .before .before .before .args .progress) _ 0 (c .add-universal .ensures), λ t r l e h inside. rw (c .before .before .before .before .before .before .before .before .before .before .if1 .taken) (one-universal h inside (c .before .before .before .before .before .before .before .before .before .before .before .before .before .before .before .args .variable) (omega arith) (c .before .before .before .before .before .before .declare .ensures .told) (c .before .if2 .left) few w (c .before .before .before .before .before .before .declare .ensures .sets-are) (c .before .before .before .before .before .before .declare .ensures .kinds-are) (c .add-universal .ensures)))
 
--- src/declarations.rt:73:9
 declare-requires-2 : tie.Need-declare-requires-2
 declare-requires-2 c κs = search needs
 
--- src/declarations.rt:74:9
 refused-requires-2 : tie.Need-refused-requires-2
 refused-requires-2 c κs = search needs
 
--- src/declarations.rt:74:9
 same-length-5 : tie.Need-same-length-5
 same-length-5 c = c .before .before .before .before .before .before .declare2 .kept .1 .1 .1 .1 .0
 
--- src/declarations.rt:74:9
 same-length-6 : tie.Need-same-length-6
 same-length-6 c = c .before .before .before .before .before .before .declare2 .kept .1 .1 .1 .1 .1 .0
 
--- src/declarations.rt:74:9
 returns-3 : tie.Need-returns-3
 returns-3 c = rw (c .refused2 .ensures) (one-same (c .before .before .before .before .before .before .before .before .before .before .before .before .before .before .args .progress) 12, λ t r l e h inside. one-refused h inside (c .before .before .before .before .before .before .before .before .before .before .before .before .before .before .args .variable) (omega arith) (c .before .before .before .before .before .before .declare2 .ensures .told) (c .before .before .before .before .before .before .before .before .before .before .before .before .before .before .args .universal) 4 0 (c .before .if3 .taken) (c .before .before .before .before .before .before .declare2 .ensures .sets-are) (c .before .before .before .before .before .before .declare2 .ensures .kinds-are))
 
--- src/declarations.rt:47:1
 same-length-7 : tie.Need-same-length-7
 same-length-7 c = c .before .before .before .before .before .declare2 .kept .1 .1 .1 .1 .0
 
--- src/declarations.rt:47:1
 same-length-8 : tie.Need-same-length-8
 same-length-8 c = c .before .before .before .before .before .declare2 .kept .1 .1 .1 .1 .1 .0
 
--- src/declarations.rt:47:1
 returns-4 : tie.Need-returns-4
 returns-4 c = (one-same (c .before .before .before .before .before .before .before .before .before .before .before .before .before .args .progress) 0, λ t r l e h inside. rw (c .before .before .before .before .before .before .before .before .if1 .left) (one-existential h inside (c .before .before .before .before .before .before .before .before .before .before .before .before .before .args .variable) (omega arith) (c .before .before .before .before .before .declare2 .ensures .told) (c .if3 .left) (c .before .before .before .before .before .declare2 .ensures .sets-are) (c .before .before .before .before .before .declare2 .ensures .kinds-are)))
 

@@ -13,99 +13,75 @@ use Rattle.prefix_lines.proofs.declarations.declare.Reads as declare-re
 use Rattle.prefix_lines.proofs.declarations.members_of.Reads as members-of-reads
 use Rattle.prefix_lines.proofs.progress.refused.Reads as refused-reads
 
--- src/declarations.rt:170:9
 refused-requires : tie.Need-refused-requires
 refused-requires c κs = search needs
 
--- src/declarations.rt:170:9
 returns : tie.Need-returns
 returns c = λ t r l e h. rw (c .refused .ensures) (d-late h (c .before .if1 .taken) (getD (c .before .before .before .before .before .before .args .numbers .now) 0 0) (drop 1 (c .before .before .before .before .before .before .args .numbers .now)))
 
--- src/declarations.rt:174:15
 cast-end : tie.Need-cast-end
 cast-end c = search needs
 
--- src/declarations.rt:175:30
 sub-members-of : tie.Need-sub-members-of
 sub-members-of c = search needs
 
--- src/declarations.rt:175:30
 part-members-of-start : tie.Need-part-members-of-start
 part-members-of-start c = search needs
 
--- src/declarations.rt:175:30
 part-members-of-end : tie.Need-part-members-of-end
 part-members-of-end c = search needs
 
--- src/declarations.rt:175:45
 slice-reshare-prefix-members-of : tie.Need-slice-reshare-prefix-members-of
 slice-reshare-prefix-members-of c = search needs
 
--- src/declarations.rt:175:45
 slice-aggregate-members-of : tie.Need-slice-aggregate-members-of
 slice-aggregate-members-of c = sym (length-take-le _ (c .before .before .before .before .before .before .before .before .before .before .args .sets .now) (omega arith))
 
--- src/declarations.rt:175:59
 slice-reshare-prefix-members-of-2 : tie.Need-slice-reshare-prefix-members-of-2
 slice-reshare-prefix-members-of-2 c = search needs
 
--- src/declarations.rt:175:59
 slice-aggregate-members-of-2 : tie.Need-slice-aggregate-members-of-2
 slice-aggregate-members-of-2 c = sym (length-take-le _ (c .before .before .before .before .before .before .before .before .before .before .before .args .kinds .now) (omega arith))
 
--- src/declarations.rt:175:9
 members-of-requires : tie.Need-members-of-requires
 members-of-requires c κs = search needs
 
--- src/declarations.rt:177:9
 refused-requires-2 : tie.Need-refused-requires-2
 refused-requires-2 c κs = search needs
 
--- src/declarations.rt:177:9
 same-length : tie.Need-same-length
 same-length c = refl
 
--- src/declarations.rt:177:9
 same-length-2 : tie.Need-same-length-2
 same-length-2 c = refl
 
--- src/declarations.rt:177:9
 returns-2 : tie.Need-returns-2
 returns-2 c = let xs = c .before .before .before .before .before .before .before .before .before .before .before .before .before .before .before .args .numbers .now in λ t r l e h. rw (c .refused2 .ensures) (d-stranger h (c .before .before .before .before .before .before .before .before .before .before .if1 .left) (getD xs 0 0) (drop 1 xs) (rw (tail-lent xs 1) at (c .before .before .before .members-of .ensures .0)) (c .before .if2 .taken))
 
--- src/declarations.rt:179:17
 shared-slice-read-declare : tie.Need-shared-slice-read-declare
 shared-slice-read-declare c = search needs
 
--- src/declarations.rt:179:9
 declare-requires : tie.Need-declare-requires
 declare-requires c κs = search needs
 
--- src/declarations.rt:180:9
 refused-requires-3 : tie.Need-refused-requires-3
 refused-requires-3 c κs = search needs
 
--- src/declarations.rt:180:9
 same-length-3 : tie.Need-same-length-3
 same-length-3 c = c .before .before .before .before .before .before .declare .kept .1 .1 .1 .1 .0
 
--- src/declarations.rt:180:9
 same-length-4 : tie.Need-same-length-4
 same-length-4 c = c .before .before .before .before .before .before .declare .kept .1 .1 .1 .1 .1 .0
 
--- src/declarations.rt:180:9
 returns-3 : tie.Need-returns-3
 returns-3 c = let xs = c .before .before .before .before .before .before .before .before .before .before .before .before .before .before .before .before .before .before .before .before .before .before .before .before .args .numbers .now in λ t r l e h. rw (c .refused3 .ensures) (d-refused h (c .before .before .before .before .before .before .before .before .before .before .before .before .before .before .before .before .before .before .before .if1 .left) (getD xs 0 0) (drop 1 xs) (rw (tail-lent xs 1) at (c .before .before .before .before .before .before .before .before .before .before .before .before .members-of .ensures .0)) (c .before .before .before .before .before .before .before .before .before .before .if2 .left) (rw (tail-lent xs 1) at (c .before .before .before .before .before .before .before .before .before .before .before .before .members-of .ensures .1)) (λ z. omega (arith, c .before .before .before .before .before .before .before .before .before .before .before .before .before .before .before .before .before .before .before .before .before .before .before .before .pre .1)) (c .before .before .before .before .before .before .declare .ensures .told) (c .before .if3 .taken) (c .before .before .before .before .before .before .declare .ensures .sets-are) (c .before .before .before .before .before .before .declare .ensures .kinds-are))
 
--- src/declarations.rt:157:1
 same-length-5 : tie.Need-same-length-5
 same-length-5 c = c .before .before .before .before .before .declare .kept .1 .1 .1 .1 .0
 
--- src/declarations.rt:157:1
 same-length-6 : tie.Need-same-length-6
 same-length-6 c = c .before .before .before .before .before .declare .kept .1 .1 .1 .1 .1 .0
 
--- src/declarations.rt:157:1
 returns-4 : tie.Need-returns-4
 returns-4 c = let xs = c .before .before .before .before .before .before .before .before .before .before .before .before .before .before .before .before .before .before .before .before .before .before .before .args .numbers .now in λ t r l e h. d-read h (c .before .before .before .before .before .before .before .before .before .before .before .before .before .before .before .before .before .before .if1 .left) (getD xs 0 0) (drop 1 xs) (rw (tail-lent xs 1) at (c .before .before .before .before .before .before .before .before .before .before .before .members-of .ensures .0)) (c .before .before .before .before .before .before .before .before .before .if2 .left) (rw (tail-lent xs 1) at (c .before .before .before .before .before .before .before .before .before .before .before .members-of .ensures .1)) (omega arith) (c .before .before .before .before .before .declare .ensures .told) (c .if3 .left) (c .before .before .before .before .before .declare .ensures .sets-are) (c .before .before .before .before .before .declare .ensures .kinds-are)
 

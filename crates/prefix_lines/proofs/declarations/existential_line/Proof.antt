@@ -8,27 +8,21 @@ use Rattle.prefix_lines.proofs.declarations.existential_line.Lts as lts
 use Rattle.prefix_lines.proofs.declarations.declare_all.Reads as declare-all-reads
 use Rattle.prefix_lines.proofs.progress.refused.Reads as refused-reads
 
--- src/declarations.rt:151:9
 refused-requires : tie.Need-refused-requires
 refused-requires c κs = search needs
 
--- src/declarations.rt:151:9
 returns : tie.Need-returns
 returns c = λ t r l e h. rw (c .refused .ensures) (e-late h (c .before .if1 .taken) _)
 
--- src/declarations.rt:153:5
 declare-all-requires : tie.Need-declare-all-requires
 declare-all-requires c κs = (c .before .before .before .before .before .before .before .pre .0, c .before .before .before .before .before .before .before .pre .1, c .before .before .before .before .before .before .before .pre .2, λ u. absurd (false≢true u))
 
--- src/declarations.rt:138:1
 same-length : tie.Need-same-length
 same-length c = c .before .before .before .before .declare-all .kept .1 .1 .1 .0
 
--- src/declarations.rt:138:1
 same-length-2 : tie.Need-same-length-2
 same-length-2 c = c .before .before .before .before .declare-all .kept .1 .1 .1 .1 .0
 
--- src/declarations.rt:138:1
 returns-2 : tie.Need-returns-2
 returns-2 c = λ t r l e h. e-read h (c .before .before .before .before .before .before .before .if1 .left) _ (c .before .before .before .before .declare-all .ensures t r l e h)
 

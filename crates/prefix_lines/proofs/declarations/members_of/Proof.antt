@@ -20,51 +20,39 @@ Inv-loop variables sets kinds universal₀ union₀ i₀ universal union i = (i 
 abbrev μ-loop : tie.MeasureT-loop
 μ-loop variables sets kinds universal₀ union₀ i₀ universal union i = i
 
--- src/declarations.rt:133:5
 loop-holds : tie.Need-loop-holds Inv-loop μ-loop
 loop-holds c = (omega arith, universal-end _ (c .before .before .before .args .variables .now), union-end _ (c .before .before .before .args .variables .now))
 
--- src/declarations.rt:134:9
 sub-i : tie.Need-sub-i Inv-loop μ-loop
 sub-i c = search needs
 
--- src/declarations.rt:135:59
 mul-t10 : tie.Need-mul-t10 Inv-loop μ-loop
 mul-t10 c = search needs
 
--- src/declarations.rt:135:59
 shared-slice-read-t12 : tie.Need-shared-slice-read-t12 Inv-loop μ-loop
 shared-slice-read-t12 c = search needs
 
--- src/declarations.rt:135:13
 kind-of-requires : tie.Need-kind-of-requires Inv-loop μ-loop
 kind-of-requires c κs = search needs
 
--- src/declarations.rt:137:56
 mul-t10-2 : tie.Need-mul-t10-2 Inv-loop μ-loop
 mul-t10-2 c = search needs
 
--- src/declarations.rt:137:56
 shared-slice-read-t12-2 : tie.Need-shared-slice-read-t12-2 Inv-loop μ-loop
 shared-slice-read-t12-2 c = search needs
 
--- src/declarations.rt:137:13
 set-of-requires : tie.Need-set-of-requires Inv-loop μ-loop
 set-of-requires c κs = search needs
 
--- src/declarations.rt:138:9
 union-requires : tie.Need-union-requires Inv-loop μ-loop
 union-requires c κs = search needs
 
--- src/declarations.rt:133:5
 loop-less : tie.Need-loop-less Inv-loop μ-loop
 loop-less c = search needs
 
--- src/declarations.rt:133:5
 loop-again : tie.Need-loop-again Inv-loop μ-loop
 loop-again c = (omega arith, universal-more _ (c .before .before .before .before .before .before .before .before .before .before .args .variables .now) (c .before .before .before .before .before .before .loop .i) (c .before .before .before .before .before .loop-test .taken) (c .before .before .before .before .before .before .loop .inv .0) (c .before .before .before .before .before .before .loop .inv .1) (c .before .before .before .kind-of .ensures), union-more _ (c .before .before .before .before .before .before .before .before .before .before .args .variables .now) (c .before .before .before .before .before .before .loop .i) (c .before .before .before .before .before .loop-test .taken) (c .before .before .before .before .before .before .loop .inv .0) (c .before .before .before .before .before .before .loop .inv .2) (c .before .set-of .ensures) (c .union .ensures))
 
--- src/declarations.rt:127:1
 returns : tie.Need-returns Inv-loop μ-loop
 returns c = let z : c .before .loop .i ≡ 0 = omega arith in (rw z at (c .before .loop .inv .1), rw z at (c .before .loop .inv .2))
 

@@ -10,67 +10,51 @@ use Rattle.ranks.proofs.order.insert_all.Reads as insert-all-reads
 use Rattle.prefix_lines.proofs.declarations.declare_all.Reads as declare-all-reads
 use Rattle.prefix_lines.proofs.progress.refused.Reads as refused-reads
 
--- src/declarations.rt:204:9
 refused-requires : tie.Need-refused-requires
 refused-requires c κs = search needs
 
--- src/declarations.rt:204:9
 returns : tie.Need-returns
 returns c = λ t r l e h k. rw (c .refused .ensures) ((a-late h (c .before .if1 .taken) _, λ z. absurd (omega arith)))
 
--- src/declarations.rt:207:18
 cast-before : tie.Need-cast-before
 cast-before c = search needs
 
--- src/declarations.rt:208:9
 insert-all-requires : tie.Need-insert-all-requires
 insert-all-requires c κs = search needs
 
--- src/declarations.rt:210:9
 refused-requires-2 : tie.Need-refused-requires-2
 refused-requires-2 c κs = search needs
 
--- src/declarations.rt:210:9
 same-length : tie.Need-same-length
 same-length c = c .before .before .before .before .insert-all .kept .1 .1 .0
 
--- src/declarations.rt:210:9
 returns-2 : tie.Need-returns-2
 returns-2 c = λ t r l e h k. rw (c .refused2 .ensures) ((a-over h (c .before .before .before .before .before .before .before .before .if1 .left) (c .before .before .before .before .before .before .before .before .before .before .before .before .before .before .args .variables .now) (c .before .before .before .before .before .before .before .before .before .before .before .before .before .before .args .known .now) k _ _ (c .before .before .before .before .insert-all .ensures) (c .before .if2 .taken), λ z. absurd (omega arith)))
 
--- src/declarations.rt:212:8
 sub-if3 : tie.Need-sub-if3
 sub-if3 c = count-grows (c .before .before .before .before .before .before .before .before .before .before .before .before .before .args .known .now) _ _ _ _ _ (c .before .before .before .before .before .before .before .before .before .before .before .before .before .pre .3) (c .before .before .before .before .before .before .before .before .before .before .before .before .before .pre .4) (c .before .before .before .insert-all .ensures)
 
--- src/declarations.rt:213:9
 refused-requires-3 : tie.Need-refused-requires-3
 refused-requires-3 c κs = search needs
 
--- src/declarations.rt:213:9
 same-length-2 : tie.Need-same-length-2
 same-length-2 c = c .before .before .before .before .before .insert-all .kept .1 .1 .0
 
--- src/declarations.rt:213:9
 returns-3 : tie.Need-returns-3
 returns-3 c = λ t r l e h k. rw (c .refused3 .ensures) ((a-repeated h (c .before .before .before .before .before .before .before .before .before .if1 .left) (c .before .before .before .before .before .before .before .before .before .before .before .before .before .before .before .args .variables .now) (c .before .before .before .before .before .before .before .before .before .before .before .before .before .before .before .args .known .now) k _ _ (c .before .before .before .before .before .insert-all .ensures) (c .before .before .if2 .left) (c .before .if3 .taken), λ z. absurd (omega arith)))
 
--- src/declarations.rt:215:5
 declare-all-requires : tie.Need-declare-all-requires
 declare-all-requires c κs = search needs
 
--- src/declarations.rt:189:1
 same-length-3 : tie.Need-same-length-3
 same-length-3 c = c .before .before .before .before .before .before .before .before .before .before .before .insert-all .kept .1 .1 .0
 
--- src/declarations.rt:189:1
 same-length-4 : tie.Need-same-length-4
 same-length-4 c = c .before .before .before .before .declare-all .kept .1 .1 .1 .0
 
--- src/declarations.rt:189:1
 same-length-5 : tie.Need-same-length-5
 same-length-5 c = c .before .before .before .before .declare-all .kept .1 .1 .1 .1 .0
 
--- src/declarations.rt:189:1
 returns-4 : tie.Need-returns-4
 returns-4 c = λ t r l e h k. (a-read h (c .before .before .before .before .before .before .before .before .before .before .before .before .before .before .before .if1 .left) (c .before .before .before .before .before .before .before .before .before .before .before .before .before .before .before .before .before .before .before .before .before .args .variables .now) (c .before .before .before .before .before .before .before .before .before .before .before .before .before .before .before .before .before .before .before .before .before .args .known .now) k _ _ (c .before .before .before .before .before .before .before .before .before .before .before .insert-all .ensures) (c .before .before .before .before .before .before .before .before .if2 .left) (c .before .before .before .before .before .before .before .if3 .left) (c .before .before .before .before .declare-all .ensures t r l e h), a-known h (c .before .before .before .before .before .before .before .before .before .before .before .before .before .before .before .if1 .left) (c .before .before .before .before .before .before .before .before .before .before .before .before .before .before .before .before .before .before .before .before .before .args .variables .now) (c .before .before .before .before .before .before .before .before .before .before .before .before .before .before .before .before .before .before .before .before .before .args .known .now) k _ _ (c .before .before .before .before .before .before .before .before .before .before .before .insert-all .ensures) (c .before .before .before .before .before .before .before .before .if2 .left) (c .before .before .before .before .before .before .before .if3 .left) (c .before .before .before .before .declare-all .ensures t r l e h))
 

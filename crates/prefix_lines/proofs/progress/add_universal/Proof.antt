@@ -5,11 +5,9 @@ use Rattle.prefix_lines.proofs.progress.add_universal.Tie as tie
 use Rattle.prefix_lines.proofs.progress.add_universal.Reads as reads
 use Rattle.prefix_lines.proofs.progress.add_universal.Lts as lts
 
--- src/progress.rt:45:21
 add-t11 : tie.Need-add-t11
 add-t11 c = search needs
 
--- src/progress.rt:31:1
 returns : tie.Need-returns
 unfolding universalAdded
 returns c = search needs

@@ -16,43 +16,33 @@ Inv-loop ranks count found₀ i₀ found i = (i ≤ count) × (sideBySide (take 
 abbrev μ-loop : tie.MeasureT-loop
 μ-loop ranks count found₀ i₀ found i = count - i
 
--- src/literals.rt:41:5
 loop-holds : tie.Need-loop-holds Inv-loop μ-loop
 loop-holds c = (omega arith, refl)
 
--- src/literals.rt:41:11
 add-loop : tie.Need-add-loop Inv-loop μ-loop
 add-loop c = omega arith
 
--- src/literals.rt:42:17
 add-j : tie.Need-add-j Inv-loop μ-loop
 add-j c = omega arith
 
--- src/literals.rt:43:26
 mul-found : tie.Need-mul-found Inv-loop μ-loop
 mul-found c = omega arith
 
--- src/literals.rt:43:26
 shared-slice-read-found : tie.Need-shared-slice-read-found Inv-loop μ-loop
 shared-slice-read-found c = omega arith
 
--- src/literals.rt:43:42
 mul-found-2 : tie.Need-mul-found-2 Inv-loop μ-loop
 mul-found-2 c = omega arith
 
--- src/literals.rt:43:42
 shared-slice-read-found-2 : tie.Need-shared-slice-read-found-2 Inv-loop μ-loop
 shared-slice-read-found-2 c = omega arith
 
--- src/literals.rt:41:5
 loop-less : tie.Need-loop-less Inv-loop μ-loop
 loop-less c = omega arith
 
--- src/literals.rt:41:5
 loop-again : tie.Need-loop-again Inv-loop μ-loop
 loop-again c = (omega arith, pair-more (c .before .before .before .before .args .ranks .now) (c .before .before .before .before .args .count) (c .before .before .before .loop .i) (c .before .before .before .loop .found) (c .before .before .before .before .pre) (c .before .before .before .loop .inv .1) (c .before .before .loop-test .taken))
 
--- src/literals.rt:35:1
 returns : tie.Need-returns Inv-loop μ-loop
 returns c = pair-done (c .before .before .args .ranks .now) (c .before .before .args .count) (c .before .loop .i) (c .before .loop .found) (c .before .before .pre) (c .before .loop .inv .1) (omega arith)
 

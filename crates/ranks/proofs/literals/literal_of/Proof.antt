@@ -5,19 +5,15 @@ use Rattle.ranks.proofs.literals.literal_of.Tie as tie
 use Rattle.ranks.proofs.literals.literal_of.Reads as reads
 use Rattle.ranks.proofs.literals.literal_of.Lts as lts
 
--- src/literals.rt:14:20
 cast-variable : tie.Need-cast-variable
 cast-variable c = search needs
 
--- src/literals.rt:16:9
 returns : tie.Need-returns
 returns c = literal-plain (c .before .args .rank) (c .before .pre) (c .if1 .taken)
 
--- src/literals.rt:18:5
 sub-result : tie.Need-sub-result
 sub-result c = literal-minus-fits (c .before .args .rank) (c .before .pre)
 
--- src/literals.rt:10:1
 returns-2 : tie.Need-returns-2
 returns-2 c = literal-minus (c .before .args .rank) (c .before .pre) (c .if1 .left)
 

@@ -17,47 +17,36 @@ Inv-loop ranks count tail₀ i₀ tail i = (i ≤ count) × (tail ≡ map litera
 abbrev μ-loop : tie.MeasureT-loop
 μ-loop ranks count tail₀ i₀ tail i = count - i
 
--- src/literals.rt:28:5
 loop-holds : tie.Need-loop-holds Inv-loop μ-loop
 loop-holds c = (omega arith, refl)
 
--- src/literals.rt:29:30
 mul-literal-of : tie.Need-mul-literal-of Inv-loop μ-loop
 mul-literal-of c = omega arith
 
--- src/literals.rt:29:30
 shared-slice-read-literal-of : tie.Need-shared-slice-read-literal-of Inv-loop μ-loop
 shared-slice-read-literal-of c = omega arith
 
--- src/literals.rt:29:19
 literal-of-requires : tie.Need-literal-of-requires Inv-loop μ-loop
 literal-of-requires c κs = c .before .before .before .before .pre .1 (c .before .before .loop .i) (c .before .loop-test .taken)
 
--- src/literals.rt:29:9
 mul-t10 : tie.Need-mul-t10 Inv-loop μ-loop
 mul-t10 c = let e = written-length (c .before .before .before .before .before .args .ranks .now) (c .before .before .before .loop .tail) (c .before .before .before .before .before .args .tail .now) (c .before .before .before .before .before .args .count) (c .before .before .before .loop .i) (c .before .before .before .before .before .pre .0 .0) (c .before .before .before .before .before .pre .0 .1) (omega arith) (c .before .before .before .loop .inv .1) in omega arith
 
--- src/literals.rt:29:9
 slice-set-from-tail : tie.Need-slice-set-from-tail Inv-loop μ-loop
 slice-set-from-tail c = let e = written-length (c .before .before .before .before .before .args .ranks .now) (c .before .before .before .loop .tail) (c .before .before .before .before .before .args .tail .now) (c .before .before .before .before .before .args .count) (c .before .before .before .loop .i) (c .before .before .before .before .before .pre .0 .0) (c .before .before .before .before .before .pre .0 .1) (omega arith) (c .before .before .before .loop .inv .1) in omega arith
 
--- src/literals.rt:30:9
 add-i : tie.Need-add-i Inv-loop μ-loop
 add-i c = omega arith
 
--- src/literals.rt:28:5
 loop-less : tie.Need-loop-less Inv-loop μ-loop
 loop-less c = omega arith
 
--- src/literals.rt:28:5
 loop-again : tie.Need-loop-again Inv-loop μ-loop
 loop-again c = (omega arith, written-more (c .before .before .before .before .before .args .ranks .now) (c .before .before .before .loop .tail) (c .before .before .before .before .before .args .tail .now) (c .before .before .before .before .before .args .count) (c .before .before .before .loop .i) (c .before .before .before .before .before .pre .0 .0) (c .before .before .before .before .before .pre .0 .1) (omega arith) (c .before .before .before .loop .inv .1) (c .before .before .loop-test .taken) (c .literal-of .result) (c .literal-of .ok) (c .literal-of .ensures))
 
--- src/literals.rt:22:1
 same-length : tie.Need-same-length Inv-loop μ-loop
 same-length c = written-length (c .before .before .before .args .ranks .now) (c .before .loop .tail) (c .before .before .before .args .tail .now) (c .before .before .before .args .count) (c .before .loop .i) (c .before .before .before .pre .0 .0) (c .before .before .before .pre .0 .1) (omega arith) (c .before .loop .inv .1)
 
--- src/literals.rt:22:1
 returns : tie.Need-returns Inv-loop μ-loop
 returns c = written-done (c .before .before .before .args .ranks .now) (c .before .loop .tail) (c .before .before .before .args .tail .now) (c .before .before .before .args .count) (c .before .loop .i) (c .before .before .before .pre .0 .0) (c .before .before .before .pre .0 .1) (omega arith) (c .before .loop .inv .1) (omega arith)
 

@@ -5,27 +5,21 @@ use Rattle.rules.proofs.clause.clause_at.Reads as reads
 use Rattle.rules.proofs.clause.clause_at.Lts as lts
 use Rattle.tables.proofs.entries.clause_range.Reads as clause-range-reads
 
--- src/clause.rt:28:9
 clause-range-requires : tie.Need-clause-range-requires
 clause-range-requires c κs = search needs
 
--- src/clause.rt:31:5
 mul-result : tie.Need-mul-result
 mul-result c = search needs
 
--- src/clause.rt:31:5
 sub-result : tie.Need-sub-result
 sub-result c = search needs
 
--- src/clause.rt:31:5
 part-result-start : tie.Need-part-result-start
 part-result-start c = search needs
 
--- src/clause.rt:31:5
 part-result-end : tie.Need-part-result-end
 part-result-end c = search needs
 
--- src/clause.rt:24:1
 returns : tie.Need-returns
 returns c = rw (c .before .clause-range .ensures .0, c .before .clause-range .ensures .1)
 

@@ -5,12 +5,10 @@ use Rattle.rules.proofs.clause.is_unknown.Tie as tie
 use Rattle.rules.proofs.clause.is_unknown.Reads as reads
 use Rattle.rules.proofs.clause.is_unknown.Lts as lts
 
--- src/clause.rt:21:9
 returns : tie.Need-returns
 unfolding isUnknown
 returns c = rw (eq-eqb _ _ (c .if1 .taken))
 
--- src/clause.rt:16:1
 returns-2 : tie.Need-returns-2
 unfolding isUnknown
 returns-2 c = rw (ne-eqb _ _ (c .before .before .if1 .left))

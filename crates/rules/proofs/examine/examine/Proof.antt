@@ -12,89 +12,68 @@ use Rattle.rules.proofs.rules.fork.Reads as fork-reads
 use Rattle.rules.proofs.rules.reduce.Reads as reduce-reads
 use Rattle.rules.proofs.rules.resolve.Reads as resolve-reads
 
--- src/examine.rt:20:28
 enum-known-step : tie.Need-enum-known-step
 enum-known-step c = search needs
 
--- src/examine.rt:23:13
 resolve-requires : tie.Need-resolve-requires
 resolve-requires c κs = search needs
 
--- src/examine.rt:25:27
 enum-known-step-2 : tie.Need-enum-known-step-2
 enum-known-step-2 c = search needs
 
--- src/examine.rt:27:13
 reduce-requires : tie.Need-reduce-requires
 reduce-requires c κs = search needs
 
--- src/examine.rt:29:22
 enum-known-step-3 : tie.Need-enum-known-step-3
 enum-known-step-3 c = search needs
 
--- src/examine.rt:31:13
 fork-requires : tie.Need-fork-requires
 fork-requires c κs = search needs
 
--- src/examine.rt:13:1
 same-length : tie.Need-same-length
 same-length c = c .before .before .before .resolve .kept .1 .1 .1 .0
 
--- src/examine.rt:13:1
 same-length-2 : tie.Need-same-length-2
 same-length-2 c = c .before .before .before .resolve .kept .1 .1 .1 .1 .0
 
--- src/examine.rt:13:1
 same-length-3 : tie.Need-same-length-3
 same-length-3 c = refl
 
--- src/examine.rt:13:1
 same-length-4 : tie.Need-same-length-4
 same-length-4 c = refl
 
--- src/examine.rt:13:1
 returns : tie.Need-returns
 unfolding stepIn
 returns c = rw (c .before .before .before .before .before .before .before .before .before .step .given .1) (rw (toZ-ofZ {w = w32} (sfits-of (c .before .before .before .before .before .before .before .before .known-told .given .1 .1 .0 .1))) at (c .before .before .before .resolve .ensures))
 
--- src/examine.rt:13:1
 same-length-5 : tie.Need-same-length-5
 same-length-5 c = c .before .before .before .reduce .kept .1 .1 .0
 
--- src/examine.rt:13:1
 same-length-6 : tie.Need-same-length-6
 same-length-6 c = c .before .before .before .reduce .kept .1 .1 .1 .0
 
--- src/examine.rt:13:1
 same-length-7 : tie.Need-same-length-7
 same-length-7 c = refl
 
--- src/examine.rt:13:1
 same-length-8 : tie.Need-same-length-8
 same-length-8 c = refl
 
--- src/examine.rt:13:1
 returns-2 : tie.Need-returns-2
 unfolding stepIn
 returns-2 c = rw (c .before .before .before .before .before .before .before .before .before .step2 .given .1) (rw (toZ-ofZ {w = w32} (sfits-of (c .before .before .before .before .before .before .before .before .known-told2 .given .1 .0 .1))) at (c .before .before .before .reduce .ensures))
 
--- src/examine.rt:13:1
 same-length-9 : tie.Need-same-length-9
 same-length-9 c = c .before .before .before .before .before .before .before .fork .kept .1 .1 .1 .0
 
--- src/examine.rt:13:1
 same-length-10 : tie.Need-same-length-10
 same-length-10 c = c .before .before .before .before .before .before .before .fork .kept .1 .1 .1 .1 .0
 
--- src/examine.rt:13:1
 same-length-11 : tie.Need-same-length-11
 same-length-11 c = c .before .before .before .before .before .before .before .fork .kept .1 .1 .1 .1 .1 .0
 
--- src/examine.rt:13:1
 same-length-12 : tie.Need-same-length-12
 same-length-12 c = c .before .before .before .before .before .before .before .fork .kept .1 .1 .1 .1 .1 .1 .0
 
--- src/examine.rt:13:1
 returns-3 : tie.Need-returns-3
 unfolding stepIn
 returns-3 c = rw (c .before .before .before .before .before .before .before .before .before .before .before .before .before .step3 .given .1) (c .before .before .before .before .before .before .before .fork .ensures)

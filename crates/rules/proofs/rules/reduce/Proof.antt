@@ -24,74 +24,57 @@ use Rattle.rules.proofs.clause.is_unknown.Reads as is-unknown-reads
 use Rattle.tables.proofs.entries.kind_of.Reads as kind-of-reads
 use Rattle.tables.proofs.entries.set_of.Reads as set-of-reads
 
--- src/rules.rt:82:8
 is-unknown-requires : tie.Need-is-unknown-requires
 is-unknown-requires c κs = search needs
 
--- src/rules.rt:83:9
 refused-requires : tie.Need-refused-requires
 refused-requires c κs = search needs
 
--- src/rules.rt:83:9
 returns : tie.Need-returns
 returns c = reduce-unknown _ _ (c .before .before .before .before .before .before .pre) _ _ (c .before .before .is-unknown .ensures) (c .before .if1 .taken) (c .refused .ensures)
 
--- src/rules.rt:85:9
 narrowed-requires : tie.Need-narrowed-requires
 narrowed-requires c κs = search needs
 
--- src/rules.rt:86:9
 clause-at-requires : tie.Need-clause-at-requires
 clause-at-requires c κs = ranged _ _ (c .before .before .before .before .before .before .before .before .pre) _ (c .before .before .before .before .is-unknown .ensures) (c .before .before .before .if1 .left)
 
--- src/rules.rt:87:9
 place-of-requires : tie.Need-place-of-requires
 place-of-requires c κs = search needs
 
--- src/rules.rt:89:9
 refused-requires-2 : tie.Need-refused-requires-2
 refused-requires-2 c κs = search needs
 
--- src/rules.rt:89:9
 same-length : tie.Need-same-length
 same-length c = search needs
 
--- src/rules.rt:89:9
 same-length-2 : tie.Need-same-length-2
 same-length-2 c = search needs
 
--- src/rules.rt:89:9
 returns-2 : tie.Need-returns-2
 returns-2 c =
     let p = rw (toZ-ofZ (c .before .before .before .before .before .before .before .before .before .before .before .before .fits .value)) at (c .before .before .before .before .before .before .narrowed .ensures) in
     let i = rw (kept16 {z = c .before .before .before .before .before .before .narrowed .result} (c .before .before .before .before .before .before .narrowed .ok)) at (c .before .before .place-of .ensures) in
     reduce-absent _ _ (c .before .before .before .before .before .before .before .before .before .before .before .before .pre) _ _ (c .before .before .before .before .before .before .before .before .is-unknown .ensures) (c .before .before .before .before .before .before .before .if1 .left) (c .before .before .before .clause-at .ensures) p refl (place-absent _ _ i (c .before .if2 .taken)) (c .refused2 .ensures)
 
--- src/rules.rt:91:35
 variable-of-requires : tie.Need-variable-of-requires
 variable-of-requires c κs = search needs
 
--- src/rules.rt:91:35
 cast-t27 : tie.Need-cast-t27
 cast-t27 c = search needs
 
--- src/rules.rt:92:8
 kind-of-requires : tie.Need-kind-of-requires
 kind-of-requires c κs = search needs
 
--- src/rules.rt:93:9
 refused-requires-3 : tie.Need-refused-requires-3
 refused-requires-3 c κs = search needs
 
--- src/rules.rt:93:9
 same-length-3 : tie.Need-same-length-3
 same-length-3 c = search needs
 
--- src/rules.rt:93:9
 same-length-4 : tie.Need-same-length-4
 same-length-4 c = search needs
 
--- src/rules.rt:93:9
 returns-3 : tie.Need-returns-3
 returns-3 c =
     let p = rw (toZ-ofZ (c .before .before .before .before .before .before .before .before .before .before .before .before .before .before .before .fits .value)) at (c .before .before .before .before .before .before .before .before .before .narrowed .ensures) in
@@ -99,39 +82,30 @@ returns-3 c =
     let k = rw (c .before .before .before .variable-of .ensures, kept16 {z = c .before .before .before .before .before .before .before .before .before .narrowed .result} (c .before .before .before .before .before .before .before .before .before .narrowed .ok)) at (c .before .before .kind-of .ensures) in
     reduce-other _ _ (c .before .before .before .before .before .before .before .before .before .before .before .before .before .before .before .pre) _ _ (c .before .before .before .before .before .before .before .before .before .before .before .is-unknown .ensures) (c .before .before .before .before .before .before .before .before .before .before .if1 .left) (c .before .before .before .before .before .before .clause-at .ensures) p refl (place-present _ _ i (c .before .before .before .before .if2 .left)) k (c .before .if3 .taken) (c .refused3 .ensures)
 
--- src/rules.rt:95:9
 set-of-requires : tie.Need-set-of-requires
 set-of-requires c κs = search needs
 
--- src/rules.rt:97:16
 cast-used : tie.Need-cast-used
 cast-used c = search needs
 
--- src/rules.rt:99:51
 slice-aggregate-set-without : tie.Need-slice-aggregate-set-without
 slice-aggregate-set-without c = sym (length-take-le _ (c .before .before .before .before .before .before .before .before .before .before .before .before .before .before .before .before .before .before .args .sets .now) (omega (arith, formed-is _ _ (c .before .before .before .before .before .before .before .before .before .before .before .before .before .before .before .before .before .before .pre .formed) .counts .variables, long-is _ (c .before .before .before .before .before .before .before .before .before .before .before .before .before .before .before .before .before .before .pre .lent) .sets)))
 
--- src/rules.rt:99:9
 set-without-requires : tie.Need-set-without-requires
 set-without-requires c κs = (clause-in-use _ _ (c .before .before .before .before .before .before .before .before .before .before .before .before .before .before .before .before .before .before .pre) _ (c .before .before .before .before .before .before .before .before .before .before .before .before .before .before .is-unknown .ensures) (c .before .before .before .before .before .before .before .before .before .before .before .before .before .if1 .left) (c .before .before .before .before .before .before .before .before .before .clause-at .ensures) refl, c .before .before .before .before .before .before .before .if2 .left)
 
--- src/rules.rt:100:8
 inside-requires : tie.Need-inside-requires
 inside-requires c κs = search needs
 
--- src/rules.rt:101:9
 refused-requires-4 : tie.Need-refused-requires-4
 refused-requires-4 c κs = search needs
 
--- src/rules.rt:101:9
 same-length-5 : tie.Need-same-length-5
 same-length-5 c = search needs
 
--- src/rules.rt:101:9
 same-length-6 : tie.Need-same-length-6
 same-length-6 c = search needs
 
--- src/rules.rt:101:9
 returns-4 : tie.Need-returns-4
 returns-4 c =
     let p = rw (toZ-ofZ (c .before .before .before .before .before .before .before .before .before .before .before .before .before .before .before .before .before .before .before .before .before .before .fits .value)) at (c .before .before .before .before .before .before .before .before .before .before .before .before .before .before .before .before .narrowed .ensures) in
@@ -141,31 +115,24 @@ returns-4 c =
     let e = clause-without _ _ (c .before .before .before .before .before .before .before .before .before .before .before .before .before .before .before .before .before .before .before .before .before .before .pre) _ (c .before .before .before .before .before .before .before .before .before .before .before .before .before .before .before .before .before .before .is-unknown .ensures) (c .before .before .before .before .before .before .before .before .before .before .before .before .before .before .before .before .before .if1 .left) (c .before .before .before .before .before .before .before .before .before .before .before .before .before .clause-at .ensures) _ i (c .before .before .before .before .before .before .before .before .before .before .before .if2 .left) in
     reduce-read _ _ (c .before .before .before .before .before .before .before .before .before .before .before .before .before .before .before .before .before .before .before .before .before .before .pre) _ _ (c .before .before .before .before .before .before .before .before .before .before .before .before .before .before .before .before .before .before .is-unknown .ensures) (c .before .before .before .before .before .before .before .before .before .before .before .before .before .before .before .before .before .if1 .left) (c .before .before .before .before .before .before .before .before .before .before .before .before .before .clause-at .ensures) p refl (place-present _ _ i (c .before .before .before .before .before .before .before .before .before .before .before .if2 .left)) k (c .before .before .before .before .before .before .before .before .if3 .left) w refl (rw e at (c .before .before .before .set-without .ensures)) (c .before .before .inside .ensures) (c .before .if4 .taken) (c .refused4 .ensures)
 
--- src/rules.rt:103:9
 hold-requires : tie.Need-hold-requires
 hold-requires c κs = ranged-narrow _ _ (c .before .before .before .before .before .before .before .before .before .before .before .before .before .before .before .before .before .before .before .before .before .pre) _ (c .before .before .before .before .before .before .before .before .before .before .before .before .before .before .before .before .before .is-unknown .ensures) (c .before .before .before .before .before .before .before .before .before .before .before .before .before .before .before .before .if1 .left) (c .before .before .before .before .before .before .before .before .before .before .before .before .clause-at .ensures)
 
--- src/rules.rt:106:25
 array-share-prefix-source : tie.Need-array-share-prefix-source
 array-share-prefix-source c = copied-within (c .before .hold .ensures .copied)
 
--- src/rules.rt:106:25
 slice-aggregate-add-reduced : tie.Need-slice-aggregate-add-reduced
 slice-aggregate-add-reduced c = copied-length (c .before .before .hold .ensures .copied)
 
--- src/rules.rt:106:5
 add-reduced-requires : tie.Need-add-reduced-requires
 add-reduced-requires c κs = rw (c .before .before .before .before .hold .ensures .copied .front) (c .before .before .before .before .before .before .before .before .before .before .before .before .before .before .before .before .before .before .before .before .before .before .before .before .before .before .pre, c .before .before .before .before .before .before .before .before .before .before .before .before .before .before .before .if2 .left, ranged-narrow _ _ (c .before .before .before .before .before .before .before .before .before .before .before .before .before .before .before .before .before .before .before .before .before .before .before .before .before .before .pre) _ (c .before .before .before .before .before .before .before .before .before .before .before .before .before .before .before .before .before .before .before .before .before .before .is-unknown .ensures) (c .before .before .before .before .before .before .before .before .before .before .before .before .before .before .before .before .before .before .before .before .before .if1 .left) (c .before .before .before .before .before .before .before .before .before .before .before .before .before .before .before .before .before .clause-at .ensures))
 
--- src/rules.rt:67:1
 same-length-7 : tie.Need-same-length-7
 same-length-7 c = search needs
 
--- src/rules.rt:67:1
 same-length-8 : tie.Need-same-length-8
 same-length-8 c = search needs
 
--- src/rules.rt:67:1
 returns-5 : tie.Need-returns-5
 returns-5 c =
     let p = rw (toZ-ofZ (c .before .before .before .before .before .before .before .before .before .before .before .before .before .before .before .before .before .before .before .before .before .before .before .before .before .before .before .before .before .before .fits .value)) at (c .before .before .before .before .before .before .before .before .before .before .before .before .before .before .before .before .before .before .before .before .before .before .before .before .narrowed .ensures) in

@@ -20,65 +20,50 @@ use Rattle.dqbf.proofs.literal.negated.Reads as negated-reads
 use Rattle.rules.proofs.clause.clause_at.Reads as clause-at-reads
 use Rattle.rules.proofs.clause.is_unknown.Reads as is-unknown-reads
 
--- src/rules.rt:39:8
 is-unknown-requires : tie.Need-is-unknown-requires
 is-unknown-requires c κs = search needs
 
--- src/rules.rt:40:9
 refused-requires : tie.Need-refused-requires
 refused-requires c κs = search needs
 
--- src/rules.rt:40:9
 returns : tie.Need-returns
 returns c = resolve-first _ _ (c .before .before .before .before .before .before .pre) _ _ _ (c .before .before .is-unknown .ensures) refl (c .before .if1 .taken) (c .refused .ensures)
 
--- src/rules.rt:42:8
 is-unknown-requires-2 : tie.Need-is-unknown-requires-2
 is-unknown-requires-2 c κs = search needs
 
--- src/rules.rt:43:9
 refused-requires-2 : tie.Need-refused-requires-2
 refused-requires-2 c κs = search needs
 
--- src/rules.rt:43:9
 returns-2 : tie.Need-returns-2
 returns-2 c = resolve-second _ _ (c .before .before .before .before .before .before .before .before .pre) _ _ _ (c .before .before .before .before .is-unknown .ensures) (c .before .before .is-unknown2 .ensures) (c .before .before .before .if1 .left) (c .before .if2 .taken) (c .refused2 .ensures)
 
--- src/rules.rt:45:9
 narrowed-requires : tie.Need-narrowed-requires
 narrowed-requires c κs = search needs
 
--- src/rules.rt:46:9
 negated-requires : tie.Need-negated-requires
 negated-requires c κs =
     let p = rw (toZ-ofZ (c .before .before .before .before .before .before .before .before .fits .pivot)) at (c .narrowed .ensures) in
     rw (kept16 {z = c .narrowed .result} (c .narrowed .ok), p) (let b = literal-small (c .before .before .before .before .before .before .before .before .args .pivot) in omega arith)
 
--- src/rules.rt:47:9
 clause-at-requires : tie.Need-clause-at-requires
 clause-at-requires c κs = ranged _ _ (c .before .before .before .before .before .before .before .before .before .before .before .pre) _ (c .before .before .before .before .before .before .before .is-unknown .ensures) (c .before .before .before .before .before .before .if1 .left)
 
--- src/rules.rt:48:9
 clause-at-requires-2 : tie.Need-clause-at-requires-2
 clause-at-requires-2 c κs = ranged _ _ (c .before .before .before .before .before .before .before .before .before .before .before .before .before .pre) _ (c .before .before .before .before .before .before .before .is-unknown2 .ensures) (c .before .before .before .before .before .before .if2 .left)
 
--- src/rules.rt:49:9
 place-of-requires : tie.Need-place-of-requires
 place-of-requires c κs = search needs
 
--- src/rules.rt:51:9
 refused-requires-3 : tie.Need-refused-requires-3
 refused-requires-3 c κs = search needs
 
--- src/rules.rt:51:9
 same-length : tie.Need-same-length
 same-length c = search needs
 
--- src/rules.rt:51:9
 same-length-2 : tie.Need-same-length-2
 same-length-2 c = search needs
 
--- src/rules.rt:51:9
 returns-3 : tie.Need-returns-3
 returns-3 c =
     let p = rw (toZ-ofZ (c .before .before .before .before .before .before .before .before .before .before .before .before .before .before .before .before .before .fits .pivot)) at (c .before .before .before .before .before .before .before .before .before .narrowed .ensures) in
@@ -86,23 +71,18 @@ returns-3 c =
     let i = rw (kept16 {z = c .before .before .before .before .before .before .before .before .before .narrowed .result} (c .before .before .before .before .before .before .before .before .before .narrowed .ok)) at (c .before .before .place-of .ensures) in
     resolve-pivot _ _ (c .before .before .before .before .before .before .before .before .before .before .before .before .before .before .before .before .before .pre) _ _ _ (c .before .before .before .before .before .before .before .before .before .before .before .before .before .is-unknown .ensures) (c .before .before .before .before .before .before .before .before .before .before .before .is-unknown2 .ensures) (c .before .before .before .before .before .before .before .before .before .before .before .before .if1 .left) (c .before .before .before .before .before .before .before .before .before .before .if2 .left) (c .before .before .before .before .before .clause-at .ensures) (c .before .before .before .clause-at2 .ensures) p q refl (place-absent _ _ i (c .before .if3 .taken)) (c .refused3 .ensures)
 
--- src/rules.rt:53:9
 place-of-requires-2 : tie.Need-place-of-requires-2
 place-of-requires-2 c κs = search needs
 
--- src/rules.rt:55:9
 refused-requires-4 : tie.Need-refused-requires-4
 refused-requires-4 c κs = search needs
 
--- src/rules.rt:55:9
 same-length-3 : tie.Need-same-length-3
 same-length-3 c = search needs
 
--- src/rules.rt:55:9
 same-length-4 : tie.Need-same-length-4
 same-length-4 c = search needs
 
--- src/rules.rt:55:9
 returns-4 : tie.Need-returns-4
 returns-4 c =
     let p = rw (toZ-ofZ (c .before .before .before .before .before .before .before .before .before .before .before .before .before .before .before .before .before .before .before .fits .pivot)) at (c .before .before .before .before .before .before .before .before .before .before .before .narrowed .ensures) in
@@ -111,43 +91,33 @@ returns-4 c =
     let j = rw (kept16 {z = c .before .before .before .before .before .before .before .before .before .before .negated .result} (c .before .before .before .before .before .before .before .before .before .before .negated .ok)) at (c .before .before .place-of2 .ensures) in
     resolve-complement _ _ (c .before .before .before .before .before .before .before .before .before .before .before .before .before .before .before .before .before .before .before .pre) _ _ _ (c .before .before .before .before .before .before .before .before .before .before .before .before .before .before .before .is-unknown .ensures) (c .before .before .before .before .before .before .before .before .before .before .before .before .before .is-unknown2 .ensures) (c .before .before .before .before .before .before .before .before .before .before .before .before .before .before .if1 .left) (c .before .before .before .before .before .before .before .before .before .before .before .before .if2 .left) (c .before .before .before .before .before .before .before .clause-at .ensures) (c .before .before .before .before .before .clause-at2 .ensures) p q refl (place-present _ _ i (c .before .before .before .if3 .left)) refl (place-absent _ _ j (c .before .if4 .taken)) (c .refused4 .ensures)
 
--- src/rules.rt:57:9
 hold-without-requires : tie.Need-hold-without-requires
 hold-without-requires c κs = (ranged-narrow _ _ (c .before .before .before .before .before .before .before .before .before .before .before .before .before .before .before .before .before .before .pre) _ (c .before .before .before .before .before .before .before .before .before .before .before .before .before .before .is-unknown .ensures) (c .before .before .before .before .before .before .before .before .before .before .before .before .before .if1 .left) (c .before .before .before .before .before .before .clause-at .ensures), c .before .before .if3 .left)
 
--- src/rules.rt:58:9
 hold-without-requires-2 : tie.Need-hold-without-requires-2
 hold-without-requires-2 c κs = (ranged-narrow _ _ (c .before .before .before .before .before .before .before .before .before .before .before .before .before .before .before .before .before .before .before .pre) _ (c .before .before .before .before .before .before .before .before .before .before .before .before .before .is-unknown2 .ensures) (c .before .before .before .before .before .before .before .before .before .before .before .before .if2 .left) (c .before .before .before .before .before .clause-at2 .ensures), c .before .if4 .left)
 
--- src/rules.rt:63:27
 array-share-prefix-a : tie.Need-array-share-prefix-a
 array-share-prefix-a c = copied-within (c .before .before .before .hold-without .ensures .copied)
 
--- src/rules.rt:63:27
 slice-aggregate-add-resolvent : tie.Need-slice-aggregate-add-resolvent
 slice-aggregate-add-resolvent c = copied-length (c .before .before .before .before .hold-without .ensures .copied)
 
--- src/rules.rt:63:36
 array-share-prefix-b : tie.Need-array-share-prefix-b
 array-share-prefix-b c = copied-within (c .before .before .before .hold-without2 .ensures .copied)
 
--- src/rules.rt:63:36
 slice-aggregate-add-resolvent-2 : tie.Need-slice-aggregate-add-resolvent-2
 slice-aggregate-add-resolvent-2 c = copied-length (c .before .before .before .before .hold-without2 .ensures .copied)
 
--- src/rules.rt:63:5
 add-resolvent-requires : tie.Need-add-resolvent-requires
 add-resolvent-requires c κs = c .before .before .before .before .before .before .before .before .before .before .before .before .before .before .before .before .before .before .before .before .before .before .before .before .before .before .pre
 
--- src/rules.rt:23:1
 same-length-5 : tie.Need-same-length-5
 same-length-5 c = search needs
 
--- src/rules.rt:23:1
 same-length-6 : tie.Need-same-length-6
 same-length-6 c = search needs
 
--- src/rules.rt:23:1
 returns-5 : tie.Need-returns-5
 returns-5 c =
     let p = rw (toZ-ofZ (c .before .before .before .before .before .before .before .before .before .before .before .before .before .before .before .before .before .before .before .before .before .before .before .before .before .before .before .before .before .before .fits .pivot)) at (c .before .before .before .before .before .before .before .before .before .before .before .before .before .before .before .before .before .before .before .before .before .before .narrowed .ensures) in

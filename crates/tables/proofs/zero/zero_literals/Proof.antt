@@ -19,31 +19,24 @@ Inv-loop literals i₀ zero₀ i zero = (i ≤ length literals) × (allOf isZero
 abbrev μ-loop : tie.MeasureT-loop
 μ-loop literals i₀ zero₀ i zero = length literals - i
 
--- src/zero.rt:21:5
 loop-holds : tie.Need-loop-holds Inv-loop μ-loop
 loop-holds c = (search needs, refl)
 
--- src/zero.rt:22:23
 mul-literal : tie.Need-mul-literal Inv-loop μ-loop
 mul-literal c = search needs
 
--- src/zero.rt:22:23
 shared-slice-copy-out-literal : tie.Need-shared-slice-copy-out-literal Inv-loop μ-loop
 shared-slice-copy-out-literal c = search needs
 
--- src/zero.rt:24:9
 add-i : tie.Need-add-i Inv-loop μ-loop
 add-i c = search needs
 
--- src/zero.rt:21:5
 loop-less : tie.Need-loop-less Inv-loop μ-loop
 loop-less c = search needs
 
--- src/zero.rt:21:5
 loop-again : tie.Need-loop-again Inv-loop μ-loop
 loop-again c = (search needs, c .before .before .loop .inv .1 ∙ all-next isZeroLiteral (c .before .before .before .args .literals .now) (c .before .before .loop .i) (pos 0) (omega arith) (c .before .before .loop .zero) (zero-literal-told _ (c .literal .given)))
 
--- src/zero.rt:16:1
 returns : tie.Need-returns Inv-loop μ-loop
 returns c = sym (c .before .loop .inv .1 ∙ all-done isZeroLiteral (c .before .before .args .literals .now) (c .before .loop .i) (omega arith) (c .before .loop .zero))
 

@@ -6,15 +6,12 @@ use Rattle.texts.proofs.lines.comment_line.Reads as reads
 use Rattle.texts.proofs.lines.comment_line.Lts as lts
 use Rattle.prefix_lines.proofs.progress.refused.Reads as refused-reads
 
--- src/lines.rt:43:9
 refused-requires : tie.Need-refused-requires
 refused-requires c κs = search needs
 
--- src/lines.rt:43:9
 returns : tie.Need-returns
 returns c = λ t r now h. rw (c .refused .ensures) (comment-late h (c .before .if1 .taken))
 
--- src/lines.rt:39:1
 returns-2 : tie.Need-returns-2
 returns-2 c = λ t r now h. comment-read h (c .if1 .left)
 

@@ -7,35 +7,27 @@ use Rattle.texts.proofs.lines.header_line.Lts as lts
 use Rattle.prefix_lines.proofs.progress.refused.Reads as refused-reads
 use Rattle.texts.proofs.lines.empty_state.Reads as empty-state-reads
 
--- src/lines.rt:55:9
 refused-requires : tie.Need-refused-requires
 refused-requires c κs = search needs
 
--- src/lines.rt:55:9
 returns : tie.Need-returns
 returns c = λ t r now h. rw (c .refused .ensures) (header-late h (c .before .if1 .taken) _ _)
 
--- src/lines.rt:58:9
 refused-requires-2 : tie.Need-refused-requires-2
 refused-requires-2 c κs = search needs
 
--- src/lines.rt:58:9
 returns-2 : tie.Need-returns-2
 returns-2 c = λ t r now h. rw (c .refused2 .ensures) (header-bound h (c .before .before .if1 .left) _ _ (c .before .if2 .taken))
 
--- src/lines.rt:61:9
 refused-requires-3 : tie.Need-refused-requires-3
 refused-requires-3 c κs = search needs
 
--- src/lines.rt:61:9
 returns-3 : tie.Need-returns-3
 returns-3 c = λ t r now h. rw (c .refused3 .ensures) (header-count h (c .before .before .before .if1 .left) _ _ (c .before .if3 .taken))
 
--- src/lines.rt:63:9
 empty-state-requires : tie.Need-empty-state-requires
 empty-state-requires c κs = search needs
 
--- src/lines.rt:51:1
 returns-4 : tie.Need-returns-4
 returns-4 c = λ t r now h. header-read h (c .before .before .before .if1 .left) _ _ (c .before .before .if2 .left) (c .before .if3 .left) (c .empty-state .ensures)
 

@@ -17,191 +17,144 @@ use Rattle.prefix_lines.proofs.progress.refused.Reads as refused-reads
 use Rattle.texts.proofs.lines.comment_line.Reads as comment-line-reads
 use Rattle.texts.proofs.lines.header_line.Reads as header-line-reads
 
--- src/lines.rt:94:9
 form-requires : tie.Need-form-requires
 form-requires c κs = search needs
 
--- src/lines.rt:96:27
 enum-told : tie.Need-enum-told
 enum-told c = search needs
 
--- src/lines.rt:96:27
 comment-line-requires : tie.Need-comment-line-requires
 comment-line-requires c κs = search needs
 
--- src/lines.rt:97:23
 enum-known-shape : tie.Need-enum-known-shape
 enum-known-shape c = search needs
 
--- src/lines.rt:97:40
 header-line-requires : tie.Need-header-line-requires
 header-line-requires c κs = search needs
 
--- src/lines.rt:98:27
 enum-known-shape-2 : tie.Need-enum-known-shape-2
 enum-known-shape-2 c = search needs
 
--- src/lines.rt:99:13
 slice-reshare-prefix-universal-line : tie.Need-slice-reshare-prefix-universal-line
 slice-reshare-prefix-universal-line c = inside-universals (c .before .before .before .before .before .before .before .before .before .before .before .before .before .args .line .now) _ _ (c .before .before .before .before .before .form .ensures) (c .before .shape2 .given .1)
 
--- src/lines.rt:99:13
 slice-aggregate-universal-line : tie.Need-slice-aggregate-universal-line
 slice-aggregate-universal-line c = sym (length-take-le _ (c .before .before .before .before .before .before .form .last .1 .0) (inside-universals (c .before .before .before .before .before .before .before .before .before .before .before .before .before .before .args .line .now) _ _ (c .before .before .before .before .before .before .form .ensures) (c .before .before .shape2 .given .1)))
 
--- src/lines.rt:98:33
 universal-line-requires : tie.Need-universal-line-requires
 universal-line-requires c κs = (positive-universals (c .before .before .before .before .before .before .before .before .before .before .before .before .before .before .before .before .before .args .line .now) _ _ (c .before .before .before .before .before .before .before .before .before .form .ensures) (c .before .before .before .before .before .shape2 .given .1), omega (arith, c .before .before .before .before .before .before .before .before .before .before .before .before .before .before .before .before .before .pre .1 .bound), omega (arith, c .before .before .before .before .before .before .before .before .before .before .before .before .before .before .before .before .before .pre .1 .bound), c .before .before .before .before .before .before .before .before .before .before .before .before .before .before .before .before .before .pre .1 .universals, c .before .before .before .before .before .before .before .before .before .before .before .before .before .before .before .before .before .pre .2)
 
--- src/lines.rt:105:29
 enum-known-shape-3 : tie.Need-enum-known-shape-3
 enum-known-shape-3 c = search needs
 
--- src/lines.rt:106:13
 slice-reshare-prefix-existential-line : tie.Need-slice-reshare-prefix-existential-line
 slice-reshare-prefix-existential-line c = inside-existentials (c .before .before .before .before .before .before .before .before .before .before .before .before .before .args .line .now) _ _ (c .before .before .before .before .before .form .ensures) (c .before .shape3 .given .1)
 
--- src/lines.rt:106:13
 slice-aggregate-existential-line : tie.Need-slice-aggregate-existential-line
 slice-aggregate-existential-line c = sym (length-take-le _ (c .before .before .before .before .before .before .form .last .1 .0) (inside-existentials (c .before .before .before .before .before .before .before .before .before .before .before .before .before .before .args .line .now) _ _ (c .before .before .before .before .before .before .form .ensures) (c .before .before .shape3 .given .1)))
 
--- src/lines.rt:105:35
 existential-line-requires : tie.Need-existential-line-requires
 existential-line-requires c κs = (positive-existentials (c .before .before .before .before .before .before .before .before .before .before .before .before .before .before .before .before .args .line .now) _ _ (c .before .before .before .before .before .before .before .before .form .ensures) (c .before .before .before .before .shape3 .given .1), omega (arith, c .before .before .before .before .before .before .before .before .before .before .before .before .before .before .before .before .pre .1 .bound), omega (arith, c .before .before .before .before .before .before .before .before .before .before .before .before .before .before .before .before .pre .1 .bound))
 
--- src/lines.rt:111:26
 enum-known-shape-4 : tie.Need-enum-known-shape-4
 enum-known-shape-4 c = search needs
 
--- src/lines.rt:111:61
 slice-reshare-prefix-dependent-line : tie.Need-slice-reshare-prefix-dependent-line
 slice-reshare-prefix-dependent-line c = inside-dependent (c .before .before .before .before .before .before .before .before .before .before .before .before .before .args .line .now) _ _ (c .before .before .before .before .before .form .ensures) (c .before .shape4 .given .1)
 
--- src/lines.rt:111:61
 slice-aggregate-dependent-line : tie.Need-slice-aggregate-dependent-line
 slice-aggregate-dependent-line c = sym (length-take-le _ (c .before .before .before .before .before .before .form .last .1 .0) (inside-dependent (c .before .before .before .before .before .before .before .before .before .before .before .before .before .before .args .line .now) _ _ (c .before .before .before .before .before .before .form .ensures) (c .before .before .shape4 .given .1)))
 
--- src/lines.rt:111:32
 dependent-line-requires : tie.Need-dependent-line-requires
 dependent-line-requires c κs = (some-dependent (c .before .before .before .before .before .before .before .before .before .before .before .before .before .before .before .before .args .line .now) _ _ (c .before .before .before .before .before .before .before .before .form .ensures) (c .before .before .before .before .shape4 .given .1), positive-dependent (c .before .before .before .before .before .before .before .before .before .before .before .before .before .before .before .before .args .line .now) _ _ (c .before .before .before .before .before .before .before .before .form .ensures) (c .before .before .before .before .shape4 .given .1), omega (arith, c .before .before .before .before .before .before .before .before .before .before .before .before .before .before .before .before .pre .1 .bound), omega (arith, c .before .before .before .before .before .before .before .before .before .before .before .before .before .before .before .before .pre .1 .bound))
 
--- src/lines.rt:112:23
 enum-known-shape-5 : tie.Need-enum-known-shape-5
 enum-known-shape-5 c = search needs
 
--- src/lines.rt:112:49
 slice-reshare-prefix-clause-line : tie.Need-slice-reshare-prefix-clause-line
 slice-reshare-prefix-clause-line c = form-clause (c .before .before .before .before .before .before .before .before .before .before .before .before .before .args .line .now) _ _ (c .before .before .before .before .before .form .ensures) (c .before .shape5 .given .1) .2 .inside
 
--- src/lines.rt:112:49
 slice-aggregate-clause-line : tie.Need-slice-aggregate-clause-line
 slice-aggregate-clause-line c = sym (length-take-le _ (c .before .before .before .before .before .before .form .last .1 .0) (form-clause (c .before .before .before .before .before .before .before .before .before .before .before .before .before .before .args .line .now) _ _ (c .before .before .before .before .before .before .form .ensures) (c .before .before .shape5 .given .1) .2 .inside))
 
--- src/lines.rt:112:29
 clause-line-requires : tie.Need-clause-line-requires
 clause-line-requires c κs = search needs
 
--- src/lines.rt:113:29
 enum-told-2 : tie.Need-enum-told-2
 enum-told-2 c = search needs
 
--- src/lines.rt:113:29
 refused-requires : tie.Need-refused-requires
 refused-requires c κs = search needs
 
--- src/lines.rt:77:1
 same-length : tie.Need-same-length
 same-length c = c .before .before .before .before .before .form .kept .1 .0
 
--- src/lines.rt:77:1
 returns : tie.Need-returns
 returns c = λ t r h k. rw (form-comment (c .before .before .before .before .before .before .before .before .before .before .before .before .before .args .line .now) _ (c .before .before .before .before .before .form .ensures) (c .before .enum-told .given .1)) (c .comment-line .ensures t r _ h, λ z. known-comment r _ k)
 
--- src/lines.rt:77:1
 same-length-2 : tie.Need-same-length-2
 same-length-2 c = c .before .before .before .before .before .before .form .kept .1 .0
 
--- src/lines.rt:77:1
 returns-2 : tie.Need-returns-2
 returns-2 c = λ t r h k. rw (form-header (c .before .before .before .before .before .before .before .before .before .before .before .before .before .before .args .line .now) _ (c .before .before .before .before .before .before .form .ensures) _ _ (c .before .before .shape .given .1)) (c .header-line .ensures t r _ h, λ z. known-header r _ k _ _)
 
--- src/lines.rt:77:1
 same-length-3 : tie.Need-same-length-3
 same-length-3 c = c .before .before .before .before .before .before .before .before .before .before .before .before .before .before .before .before .form .kept .1 .0
 
--- src/lines.rt:77:1
 same-length-4 : tie.Need-same-length-4
 same-length-4 c = c .before .before .before .before .before .before .universal-line .kept .1 .0
 
--- src/lines.rt:77:1
 same-length-5 : tie.Need-same-length-5
 same-length-5 c = c .before .before .before .before .before .before .universal-line .kept .1 .1 .1 .0
 
--- src/lines.rt:77:1
 same-length-6 : tie.Need-same-length-6
 same-length-6 c = c .before .before .before .before .before .before .universal-line .kept .1 .1 .1 .1 .0
 
--- src/lines.rt:77:1
 returns-3 : tie.Need-returns-3
 returns-3 c = λ t r h k. rw (form-universals (c .before .before .before .before .before .before .before .before .before .before .before .before .before .before .before .before .before .before .before .before .before .before .before .before .args .line .now) _ _ (c .before .before .before .before .before .before .before .before .before .before .before .before .before .before .before .before .form .ensures) (c .before .before .before .before .before .before .before .before .before .before .before .before .shape2 .given .1)) (c .before .before .before .before .before .before .universal-line .ensures t r _ _ h k)
 
--- src/lines.rt:77:1
 same-length-7 : tie.Need-same-length-7
 same-length-7 c = c .before .before .before .before .before .before .before .before .before .before .before .before .before .form .kept .1 .0
 
--- src/lines.rt:77:1
 same-length-8 : tie.Need-same-length-8
 same-length-8 c = c .before .before .before .before .existential-line .kept .1 .1 .0
 
--- src/lines.rt:77:1
 same-length-9 : tie.Need-same-length-9
 same-length-9 c = c .before .before .before .before .existential-line .kept .1 .1 .1 .0
 
--- src/lines.rt:77:1
 returns-4 : tie.Need-returns-4
 returns-4 c = λ t r h k. rw (form-existentials (c .before .before .before .before .before .before .before .before .before .before .before .before .before .before .before .before .before .before .before .before .before .args .line .now) _ _ (c .before .before .before .before .before .before .before .before .before .before .before .before .before .form .ensures) (c .before .before .before .before .before .before .before .before .before .shape3 .given .1)) (c .before .before .before .before .existential-line .ensures t r _ _ h, λ z. known-e r _ k _)
 
--- src/lines.rt:77:1
 same-length-10 : tie.Need-same-length-10
 same-length-10 c = c .before .before .before .before .before .before .before .before .before .before .before .before .before .form .kept .1 .0
 
--- src/lines.rt:77:1
 same-length-11 : tie.Need-same-length-11
 same-length-11 c = c .before .before .before .before .dependent-line .kept .1 .1 .0
 
--- src/lines.rt:77:1
 same-length-12 : tie.Need-same-length-12
 same-length-12 c = c .before .before .before .before .dependent-line .kept .1 .1 .1 .0
 
--- src/lines.rt:77:1
 returns-5 : tie.Need-returns-5
 returns-5 c = λ t r h k. rw (form-dependent (c .before .before .before .before .before .before .before .before .before .before .before .before .before .before .before .before .before .before .before .before .before .args .line .now) _ _ (c .before .before .before .before .before .before .before .before .before .before .before .before .before .form .ensures) (c .before .before .before .before .before .before .before .before .before .shape4 .given .1)) (c .before .before .before .before .dependent-line .ensures t r _ _ h, λ z. known-d r _ k _ _)
 
--- src/lines.rt:77:1
 same-length-13 : tie.Need-same-length-13
 same-length-13 c = c .before .before .before .before .before .before .before .before .before .before .before .before .before .form .kept .1 .0
 
--- src/lines.rt:77:1
 same-length-14 : tie.Need-same-length-14
 same-length-14 c = c .before .before .before .clause-line .kept .1 .1 .0
 
--- src/lines.rt:77:1
 same-length-15 : tie.Need-same-length-15
 same-length-15 c = c .before .before .before .clause-line .kept .1 .1 .1 .0
 
--- src/lines.rt:77:1
 same-length-16 : tie.Need-same-length-16
 same-length-16 c = refl
 
--- src/lines.rt:77:1
 returns-6 : tie.Need-returns-6
 returns-6 c = let w = form-clause (c .before .before .before .before .before .before .before .before .before .before .before .before .before .before .before .before .before .before .before .before .before .args .line .now) _ _ (c .before .before .before .before .before .before .before .before .before .before .before .before .before .form .ensures) (c .before .before .before .before .before .before .before .before .before .shape5 .given .1) in λ t r h k. rw (w .1) (c .before .before .before .clause-line .ensures t r _ (w .0) h (w .2 .front), λ z. known-clause r _ k _)
 
--- src/lines.rt:77:1
 same-length-17 : tie.Need-same-length-17
 same-length-17 c = c .before .before .before .before .before .form .kept .1 .0
 
--- src/lines.rt:77:1
 returns-7 : tie.Need-returns-7
 returns-7 c = λ t r h k. rw (form-malformed (c .before .before .before .before .before .before .before .before .before .before .before .before .before .args .line .now) _ (c .before .before .before .before .before .form .ensures) (c .before .enum-told2 .given .1), c .refused .ensures) (malformed h, λ z. absurd (omega arith))
 

@@ -5,19 +5,15 @@ use Rattle.texts.proofs.reading.end_of_text.Tie as tie
 use Rattle.texts.proofs.reading.end_of_text.Reads as reads
 use Rattle.texts.proofs.reading.end_of_text.Lts as lts
 
--- src/reading.rt:26:45
 add-t6 : tie.Need-add-t6
 add-t6 c = search needs
 
--- src/reading.rt:26:9
 returns : tie.Need-returns
 returns c = λ t r now h. end-opening h _ (c .if1 .taken)
 
--- src/reading.rt:31:9
 returns-2 : tie.Need-returns-2
 returns-2 c = λ t r now h. end-few h _ (c .before .before .before .before .before .if1 .left) (c .if2 .taken)
 
--- src/reading.rt:21:1
 returns-3 : tie.Need-returns-3
 returns-3 c = λ t r now h. end-accepted h _ (c .before .before .before .before .before .if1 .left) (c .if2 .left)
 

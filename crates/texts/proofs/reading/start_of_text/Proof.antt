@@ -5,11 +5,9 @@ use Rattle.texts.proofs.reading.start_of_text.Reads as reads
 use Rattle.texts.proofs.reading.start_of_text.Lts as lts
 use Rattle.texts.proofs.lines.empty_state.Reads as empty-state-reads
 
--- src/reading.rt:31:9
 empty-state-requires : tie.Need-empty-state-requires
 empty-state-requires c κs = search needs
 
--- src/reading.rt:28:1
 returns : tie.Need-returns
 returns c = λ i. record { phase = 0; count = 0; places = 0; state = (c .empty-state .ensures) i }
 

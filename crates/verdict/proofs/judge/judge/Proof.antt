@@ -8,35 +8,27 @@ use Rattle.verdict.proofs.judge.judge.Lts as lts
 use Rattle.verdict.proofs.judge.load_and_run.Reads as load-and-run-reads
 use Rattle.lines.proofs.line.write_line.Reads as write-line-reads
 
--- src/judge.rt:62:9
 load-and-run-requires : tie.Need-load-and-run-requires
 load-and-run-requires c κs = search needs
 
--- src/judge.rt:63:5
 write-line-requires : tie.Need-write-line-requires
 write-line-requires c κs = search needs
 
--- src/judge.rt:48:1
 same-length : tie.Need-same-length
 same-length c = search needs
 
--- src/judge.rt:48:1
 same-length-2 : tie.Need-same-length-2
 same-length-2 c = search needs
 
--- src/judge.rt:48:1
 same-length-3 : tie.Need-same-length-3
 same-length-3 c = search needs
 
--- src/judge.rt:48:1
 same-length-4 : tie.Need-same-length-4
 same-length-4 c = search needs
 
--- src/judge.rt:48:1
 same-length-5 : tie.Need-same-length-5
 same-length-5 c = search needs
 
--- src/judge.rt:48:1
 returns : tie.Need-returns
 returns c = line-written _ _ _ (c .before .before .before .before .before .before .before .before .before .before .before .load-and-run .ensures) (c .before .before .write-line .ensures)
 

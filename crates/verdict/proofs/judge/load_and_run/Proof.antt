@@ -9,62 +9,48 @@ use Rattle.dqdimacs.proofs.load.Reads as load-reads
 use Rattle.steps.proofs.run.run.Reads as run-reads
 use Rattle.verdict.proofs.judge.told_by.Reads as told-by-reads
 
--- src/judge.rt:36:9
 load-requires : tie.Need-load-requires
 load-requires c κs = search needs
 
--- src/judge.rt:39:32
 enum-known-answer : tie.Need-enum-known-answer
 enum-known-answer c = search needs
 
--- src/judge.rt:40:9
 same-length : tie.Need-same-length
 same-length c = search needs
 
--- src/judge.rt:40:9
 same-length-2 : tie.Need-same-length-2
 same-length-2 c = search needs
 
--- src/judge.rt:40:9
 same-length-3 : tie.Need-same-length-3
 same-length-3 c = search needs
 
--- src/judge.rt:40:9
 same-length-4 : tie.Need-same-length-4
 same-length-4 c = search needs
 
--- src/judge.rt:40:9
 returns : tie.Need-returns
 returns c = judged-refused _ _ _ _ _ _ (c .before .before .before .before .before .before .before .before .before .before .before .load .ensures) (c .before .answer .given .1)
 
 enum-told : tie.Need-enum-told
 enum-told c = search needs
 
--- src/judge.rt:42:9
 run-requires : tie.Need-run-requires
 run-requires c κs = search needs
 
--- src/judge.rt:44:5
 told-by-requires : tie.Need-told-by-requires
 told-by-requires c κs = search needs
 
--- src/judge.rt:24:1
 same-length-5 : tie.Need-same-length-5
 same-length-5 c = search needs
 
--- src/judge.rt:24:1
 same-length-6 : tie.Need-same-length-6
 same-length-6 c = search needs
 
--- src/judge.rt:24:1
 same-length-7 : tie.Need-same-length-7
 same-length-7 c = search needs
 
--- src/judge.rt:24:1
 same-length-8 : tie.Need-same-length-8
 same-length-8 c = search needs
 
--- src/judge.rt:24:1
 returns-2 : tie.Need-returns-2
 returns-2 c = ran-told _ _ (judged-ran _ _ _ (c .before .before .before .before .before .before .before .before .before .before .before .before .before .before .before .before .before .before .before .before .before .before .before .load .ensures) (c .before .before .before .before .before .before .before .before .before .before .before .before .before .enum-told .given .1) (c .before .before .before .before .before .before .before .before .run .ensures)) (c .told-by .ensures)
 

@@ -7,29 +7,23 @@ use Rattle.verdict.proofs.judge.told_by.Tie as tie
 use Rattle.verdict.proofs.judge.told_by.Reads as reads
 use Rattle.verdict.proofs.judge.told_by.Lts as lts
 
--- src/judge.rt:17:28
 enum-known-answer : tie.Need-enum-known-answer
 enum-known-answer c = search needs
 
--- src/judge.rt:18:25
 enum-known-answer-2 : tie.Need-enum-known-answer-2
 enum-known-answer-2 c = search needs
 
--- src/judge.rt:19:24
 enum-known-answer-3 : tie.Need-enum-known-answer-3
 enum-known-answer-3 c = search needs
 
--- src/judge.rt:13:1
 returns : tie.Need-returns
 unfolding toldBy
 returns c = sym (ap toldBy (c .before .answer .given .1))
 
--- src/judge.rt:13:1
 returns-2 : tie.Need-returns-2
 unfolding toldBy
 returns-2 c = sym (ap toldBy (c .before .answer2 .given .1))
 
--- src/judge.rt:13:1
 returns-3 : tie.Need-returns-3
 unfolding toldBy
 returns-3 c = sym (ap toldBy (c .before .answer3 .given .1))
