@@ -1,16 +1,18 @@
 // Checks the steps in steps.bin against the formula in formula.dq, both in its folder, and prints the line (document 01, "The line printed").
+use api::CLAUSE_LIMIT;
+use api::LITERAL_LIMIT;
+use api::VARIABLE_LIMIT;
+use api::Written;
 use libc::STDOUT_FILENO;
-use lines::line::Written;
-use verdict::judge;
 
 // The line of a formula and a list of steps, printed.
 fn print_line(text: &[u8], records: &[u8]) {
-    let mut literals = [0i16; 8192];
-    let mut ends = [0u16; 2048];
-    let mut sets = [0u64; 512];
-    let mut kinds = [0u8; 512];
+    let mut literals = [0i16; LITERAL_LIMIT];
+    let mut ends = [0u16; CLAUSE_LIMIT];
+    let mut sets = [0u64; VARIABLE_LIMIT];
+    let mut kinds = [0u8; VARIABLE_LIMIT];
     let mut out = [0u8; 32];
-    let written = judge::judge(
+    let written = api::judge(
         text,
         records,
         &mut literals,
