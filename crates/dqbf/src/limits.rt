@@ -1,4 +1,8 @@
-// The limits of document 01 that the code has.
+// The limits of document 01 that the code has (specs/Limits.antt).
+pub const TEXT_LIMIT: usize = 32768;
+
+pub const RECORDS_LIMIT: usize = 32768;
+
 pub const LITERAL_LIMIT: usize = 8192;
 
 pub const CLAUSE_LIMIT: usize = 2048;

@@ -4,6 +4,7 @@ ghost use Rattle.tables.specs.Tables.{tablesOf};
 ghost use Rattle.tables.specs.Spread.{zeroState};
 ghost use Rattle.dqdimacs.specs.Loading.{AfterLoad, loadOf};
 ghost use Rattle.dqdimacs.specs.declared.LoadAnswer.the-variants.{Refused};
+use dqbf::limits::TEXT_LIMIT;
 use prefix_lines::refusal;
 use tables::State;
 use tables::formed;
@@ -49,7 +50,7 @@ pub fn load(
         return refused(0, refusal::TABLE_TOO_SHORT);
     }
     zero::clear(literals, ends, sets, kinds);
-    if text.len() > 32768 {
+    if text.len() > TEXT_LIMIT {
         return refused(0, refusal::OVER_LIMIT);
     }
     let read = reading::read_lines(text, literals, ends, sets, kinds);

@@ -15,6 +15,7 @@ use super::progress;
 use super::progress::LineAnswer;
 use super::progress::Progress;
 use super::refusal;
+use dqbf::limits::UNIVERSAL_LIMIT;
 use ranks::order;
 use tables::VariableNumber;
 use tables::entries;
@@ -205,8 +206,9 @@ pub fn universal_line(
     }
     let state = progress.state;
     let before = state.universals as usize;
-    let count = order::insert_all(variables, variables.len(), known, before, 64);
-    if count > 64 {
+    let limit = UNIVERSAL_LIMIT as usize;
+    let count = order::insert_all(variables, variables.len(), known, before, limit);
+    if count > limit {
         return progress::refused(progress, refusal::OVER_LIMIT);
     }
     if count - before != variables.len() {

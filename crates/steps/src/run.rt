@@ -3,6 +3,7 @@ use crate::Ran;
 use crate::RunAnswer;
 use crate::StepAnswer;
 use additions::refusal;
+use dqbf::limits::RECORDS_LIMIT;
 use records::Decoded;
 use rules::examine;
 use tables::State;
@@ -120,7 +121,7 @@ pub fn run(
     if !formed::well_formed(literals, ends, sets, kinds, state) {
         return stopped(state, 0, refusal::ILL_FORMED);
     }
-    if bytes.len() > 32768 {
+    if bytes.len() > RECORDS_LIMIT {
         return stopped(state, 0, refusal::LONG_LIST);
     }
     run_records(bytes, literals, ends, sets, kinds, state)

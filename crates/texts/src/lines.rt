@@ -8,6 +8,8 @@ ghost use Rattle.tables.specs.Tables.{Tables, tablesOf};
 ghost use Rattle.prefix_lines.specs.Lines.{ReadSoFar, Known, LineRead, Within};
 ghost use Rattle.texts.specs.Texts.{emptyState};
 use clause_lines::clause;
+use dqbf::limits::CLAUSE_LIMIT;
+use dqbf::limits::VARIABLE_LIMIT;
 use forms::form;
 use forms::form::Shape;
 use prefix_lines::declarations;
@@ -54,10 +56,10 @@ fn header_line(bound: u32, count: u32, progress: Progress) -> LineAnswer
     if progress.phase != progress::OPENING {
         return progress::refused(progress, refusal::NO_FORM);
     }
-    if bound > 512 {
+    if bound as usize > VARIABLE_LIMIT {
         return progress::refused(progress, refusal::OVER_LIMIT);
     }
-    if count > 2048 {
+    if count as usize > CLAUSE_LIMIT {
         return progress::refused(progress, refusal::OVER_LIMIT);
     }
     let state = empty_state(bound);

@@ -19,6 +19,9 @@ returns c = λ t r l e h k. rw (c .refused .ensures) ((a-late h (c .before .if1 
 cast-before : tie.Need-cast-before
 cast-before c = search needs
 
+cast-limit : tie.Need-cast-limit
+cast-limit c = search needs
+
 insert-all-requires : tie.Need-insert-all-requires
 insert-all-requires c κs = search needs
 
@@ -29,10 +32,17 @@ same-length : tie.Need-same-length
 same-length c = c .before .before .before .before .insert-all .kept .1 .1 .0
 
 returns-2 : tie.Need-returns-2
-returns-2 c = λ t r l e h k. rw (c .refused2 .ensures) ((a-over h (c .before .before .before .before .before .before .before .before .if1 .left) (c .before .before .before .before .before .before .before .before .before .before .before .before .before .before .args .variables .now) (c .before .before .before .before .before .before .before .before .before .before .before .before .before .before .args .known .now) k _ _ (c .before .before .before .before .insert-all .ensures) (c .before .if2 .taken), λ z. absurd (omega arith)))
+returns-2 c =
+    let i = c .before .before .before .before in
+    let f = i .before .before .before .before in
+    let a = f .before .before .before .before .before .before .args in
+    λ t r l e h k. rw (c .refused2 .ensures) ((a-over h (f .if1 .left) (a .variables .now) (a .known .now) k _ _ (i .insert-all .ensures) (c .before .if2 .taken), λ z. absurd (omega arith)))
 
 sub-if3 : tie.Need-sub-if3
-sub-if3 c = count-grows (c .before .before .before .before .before .before .before .before .before .before .before .before .before .args .known .now) _ _ _ _ _ (c .before .before .before .before .before .before .before .before .before .before .before .before .before .pre .3) (c .before .before .before .before .before .before .before .before .before .before .before .before .before .pre .4) (c .before .before .before .insert-all .ensures)
+sub-if3 c =
+    let i = c .before .before .before in
+    let s = i .before .before .before .before .before .before .before .before .before .before in
+    count-grows (s .args .known .now) _ _ _ _ _ (s .pre .3) (s .pre .4) (i .insert-all .ensures)
 
 refused-requires-3 : tie.Need-refused-requires-3
 refused-requires-3 c κs = search needs
@@ -41,7 +51,11 @@ same-length-2 : tie.Need-same-length-2
 same-length-2 c = c .before .before .before .before .before .insert-all .kept .1 .1 .0
 
 returns-3 : tie.Need-returns-3
-returns-3 c = λ t r l e h k. rw (c .refused3 .ensures) ((a-repeated h (c .before .before .before .before .before .before .before .before .before .if1 .left) (c .before .before .before .before .before .before .before .before .before .before .before .before .before .before .before .args .variables .now) (c .before .before .before .before .before .before .before .before .before .before .before .before .before .before .before .args .known .now) k _ _ (c .before .before .before .before .before .insert-all .ensures) (c .before .before .if2 .left) (c .before .if3 .taken), λ z. absurd (omega arith)))
+returns-3 c =
+    let i = c .before .before .before .before .before in
+    let f = i .before .before .before .before in
+    let a = f .before .before .before .before .before .before .args in
+    λ t r l e h k. rw (c .refused3 .ensures) ((a-repeated h (f .if1 .left) (a .variables .now) (a .known .now) k _ _ (i .insert-all .ensures) (c .before .before .if2 .left) (c .before .if3 .taken), λ z. absurd (omega arith)))
 
 declare-all-requires : tie.Need-declare-all-requires
 declare-all-requires c κs = search needs
@@ -56,7 +70,15 @@ same-length-5 : tie.Need-same-length-5
 same-length-5 c = c .before .before .before .before .declare-all .kept .1 .1 .1 .1 .0
 
 returns-4 : tie.Need-returns-4
-returns-4 c = λ t r l e h k. (a-read h (c .before .before .before .before .before .before .before .before .before .before .before .before .before .before .before .if1 .left) (c .before .before .before .before .before .before .before .before .before .before .before .before .before .before .before .before .before .before .before .before .before .args .variables .now) (c .before .before .before .before .before .before .before .before .before .before .before .before .before .before .before .before .before .before .before .before .before .args .known .now) k _ _ (c .before .before .before .before .before .before .before .before .before .before .before .insert-all .ensures) (c .before .before .before .before .before .before .before .before .if2 .left) (c .before .before .before .before .before .before .before .if3 .left) (c .before .before .before .before .declare-all .ensures t r l e h), a-known h (c .before .before .before .before .before .before .before .before .before .before .before .before .before .before .before .if1 .left) (c .before .before .before .before .before .before .before .before .before .before .before .before .before .before .before .before .before .before .before .before .before .args .variables .now) (c .before .before .before .before .before .before .before .before .before .before .before .before .before .before .before .before .before .before .before .before .before .args .known .now) k _ _ (c .before .before .before .before .before .before .before .before .before .before .before .insert-all .ensures) (c .before .before .before .before .before .before .before .before .if2 .left) (c .before .before .before .before .before .before .before .if3 .left) (c .before .before .before .before .declare-all .ensures t r l e h))
+returns-4 c =
+    let d = c .before .before .before .before in
+    let i = d .before .before .before .before .before .before .before in
+    let f = i .before .before .before .before in
+    let a = f .before .before .before .before .before .before .args in
+    λ t r l e h k. (
+      a-read h (f .if1 .left) (a .variables .now) (a .known .now) k _ _ (i .insert-all .ensures) (d .before .before .before .before .if2 .left) (d .before .before .before .if3 .left) (d .declare-all .ensures t r l e h),
+      a-known h (f .if1 .left) (a .variables .now) (a .known .now) k _ _ (i .insert-all .ensures) (d .before .before .before .before .if2 .left) (d .before .before .before .if3 .left) (d .declare-all .ensures t r l e h),
+    )
 
 pub universal-line-spec : {M : Type 1} → statement M
 universal-line-spec =
@@ -65,6 +87,7 @@ universal-line-spec =
     refused-requires
     returns
     cast-before
+    cast-limit
     insert-all-requires
     refused-requires-2
     same-length
