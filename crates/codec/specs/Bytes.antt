@@ -1,5 +1,6 @@
 -- Tables in little-endian bytes (document 01, "The four lent tables": "each table is its entries in little-endian bytes"), over the width of an entry.
 -- `number` of dqbf's specs/Bytes.antt is the number that bytes stand for.
+--     Bytes                        a list of bytes: each entry is below 256
 --     digits                       the bytes of a number, so many of them
 --     entries, bytesOf             so many entries of a width, from bytes; and the bytes of entries
 --     signed, bits                 a number of 16 bits as a signed one, and back
@@ -7,11 +8,15 @@
 --     over                         bytes at the front of a buffer, and what stands behind them as it was
 use mathlib.Core.Bool.{cond}
 use mathlib.Core.List.{List, [], _∷_, _++_, map}
-use Prim.Native.Nat.{ℕ, zero, suc, _-_, _/_, _%_}
+use Prim.Native.Nat.{ℕ, zero, suc, _-_, _/_, _%_, _<_}
 use lib.Dec.{ltb}
 use lib.IntN.{ℤ, pos, negsuc}
-use lib.ListN.{length, take, drop}
+use lib.ListN.{length, take, drop, getD}
 use Rattle.dqbf.specs.Bytes.{number}
+
+-- the place past the end counts as 0
+abbrev pub Bytes : List ℕ → Type 0
+Bytes l = (i : ℕ) → getD l i 0 < 256
 
 -- the lowest byte first; what does not fit is left out
 unfoldable pub digits : ℕ → ℕ → List ℕ

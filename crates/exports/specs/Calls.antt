@@ -4,8 +4,8 @@
 -- are those over buffers that are long enough.
 use mathlib.Core.Bool.{cond}
 use mathlib.Core.List.{List, []}
-use Prim.Native.Nat.{ℕ, _<_}
-use lib.ListN.{getD, replicate}
+use Prim.Native.Nat.{ℕ}
+use lib.ListN.{replicate}
 use Rattle.dqbf.specs.Refusal.{refusal}
 use Rattle.dqbf.specs.Questions.{noClause, noVariable}
 use Rattle.questions.specs.Answers.{lengthAnswer, variableAnswer, shownStart, shownClause}
@@ -13,13 +13,9 @@ use Rattle.dqdimacs.specs.Loading.{AfterLoad, loadOf}
 use Rattle.dqdimacs.specs.declared.LoadAnswer.the-variants as Load
 use Rattle.steps.specs.Steps.{AfterRun, runOf}
 use Rattle.steps.specs.declared.RunAnswer.the-variants as Run
-use Rattle.codec.specs.Bytes.{over}
+use Rattle.codec.specs.Bytes.{Bytes, over}
 use Rattle.buffers.specs.Buffers.{Buffers, buffersOf, stateSize, stateWhole, whole, tablesIn, stateIn, written}
 use Rattle.results.specs.Results.{loadResult, runResult, clauseResult, showResult, variableResult}
-
--- a list of bytes; the place past the end counts as 0
-abbrev pub Bytes : List ℕ → Type 0
-Bytes l = (i : ℕ) → getD l i 0 < 256
 
 -- every entry of the buffers is a byte
 pub record AllBytes (b : Buffers) : Type 0 where

@@ -8,10 +8,7 @@ use native.Mathlib.Omega.{arith}
 use lib.ListN.{length, getD, take, drop, length-append, length-drop, length-take, take-append-drop}
 use lib.Seq.{take-at, drop-at, drop-drop, length-take-le, getD-drop}
 use Rattle.dqbf.specs.Bytes.{number}
-use Rattle.codec.specs.Bytes.{digits, entries, bytesOf, over}
-
-abbrev pub Bytes : List ℕ → Type 0
-Bytes b = (i : ℕ) → getD b i 0 < 256
+use Rattle.codec.specs.Bytes.{Bytes, digits, entries, bytesOf, over}
 
 abbrev pub Fits : ℕ → List ℕ → Type 0
 Fits w xs = (i : ℕ) → getD xs i 0 < 256 ^ w

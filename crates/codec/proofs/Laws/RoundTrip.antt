@@ -5,9 +5,9 @@ use Prim.Native.Nat.{ℕ, zero, suc, _*_, _<_, _≤_, _^_}
 use lib.IntN.{ℤ, pos}
 use lib.Signed.{mag}
 use lib.ListN.{length, getD, drop, length-map}
-use Rattle.codec.specs.Bytes.{entries, bytesOf, signed, bits, literalsIn, literalBytes, over}
+use Rattle.codec.specs.Bytes.{Bytes, entries, bytesOf, signed, bits, literalsIn, literalBytes, over}
 use Rattle.codec.specs.State.{counts, stateWith, stateIn, stateBytes}
-use Rattle.codec.proofs.Laws.Bytes.{Bytes, Fits, bytes-length, entries-length, entries-fit, entries-back, bytes-back}
+use Rattle.codec.proofs.Laws.Bytes.{Fits, bytes-length, entries-length, entries-fit, entries-back, bytes-back}
 use Rattle.codec.proofs.Laws.Signed.{signed-bits, bits-fit, bits-signed}
 
 -- ---- a table of numbers

@@ -6,9 +6,9 @@ use native.Mathlib.Nat.{mod-mod}
 use lib.ListN.{length, getD}
 use lib.Pow.{field, mod-mod-pow}
 use Rattle.tables.specs.declared.State.{State}
-use Rattle.codec.specs.Bytes.{digits, entries, bytesOf, over}
+use Rattle.codec.specs.Bytes.{Bytes, digits, entries, bytesOf, over}
 use Rattle.codec.specs.State.{counts, stateWith, stateIn, stateBytes}
-use Rattle.codec.proofs.Laws.Bytes.{Bytes, Fits, entries-fit, bytes-length, entries-back}
+use Rattle.codec.proofs.Laws.Bytes.{Fits, entries-fit, bytes-length, entries-back}
 
 -- two bytes of a number are those of its low 16 bits
 low-digits : (n : ℕ) → digits 2 (n % 65536) ≡ digits 2 n

@@ -11,8 +11,8 @@ use lib.ListN.{length, getD, set, take, drop, length-append, length-drop, length
 use lib.Seq.{take-at, drop-append-add, drop-drop, drop-cons, take-suc, take-suc-set, drop-length, append-snoc, length-take-le, take-all}
 use Rattle.dqbf.specs.Bytes.{number}
 use Rattle.dqbf.proofs.Laws.Parts.{copy-step, copy-done, part-length}
-use Rattle.codec.specs.Bytes.{digits, entries, bytesOf, signed, bits, literalsIn, literalBytes, over}
-use Rattle.codec.proofs.Laws.Bytes.{Bytes, front-bytes, rest-bytes, number-fits, digits-length, entries-length, entries-at, bytes-length, bytes-behind}
+use Rattle.codec.specs.Bytes.{Bytes, digits, entries, bytesOf, signed, bits, literalsIn, literalBytes, over}
+use Rattle.codec.proofs.Laws.Bytes.{front-bytes, rest-bytes, number-fits, digits-length, entries-length, entries-at, bytes-length, bytes-behind}
 
 -- ---- a number from its bytes, the highest first
 
