@@ -1,7 +1,12 @@
 -- The exported calls over the driver's buffers: decode, the definition of the call over tables, encode (document 01, "The solver's driver is C++").
 -- "too few bytes in any of them is 1, and nothing lent is changed then, except that a load zeroes a state lent whole."
--- Offers `AllBytes`, `After`, `loadBytes`, `runBytes`, and the results of the calls that write nothing: `showBytes`, `clauseBytes`, `variableBytes`; `loadWhole` and `runWhole`
--- are those over buffers that are long enough.
+--     AllBytes                                     every entry of the buffers is a byte
+--     After                                        the buffers behind a call, and its result
+--     loadBytes, runBytes                          what a load and a run leave and return
+--     loadWhole, runWhole                          the same over buffers that are long enough
+--     loadShort, runShort                          the same where one is too short
+--     showBytes, clauseBytes, variableBytes        the results of the calls that write nothing
+-- What a result's fields tell: specs/Statements/Fields.antt; the interface's number: specs/Interface.antt of the crate `driver`.
 use mathlib.Core.Bool.{cond}
 use mathlib.Core.List.{List, []}
 use Prim.Native.Nat.{ℕ}
