@@ -10,7 +10,7 @@ use Rattle.vectors.proofs.judge_cases.Tie as tie
 use Rattle.vectors.proofs.judge_cases.Reads as reads
 use Rattle.vectors.proofs.judge_cases.Lts as lts
 use Rattle.vectors.proofs.print_case.Reads as print-case-reads
-use Rattle.vectors.proofs.read_string.Reads as read-string-reads
+use Rattle.packed.proofs.read_string.Reads as read-string-reads
 
 abbrev Inv-loop : tie.InvT-loop
 Inv-loop file count unit₀ text₀ records₀ label₀ literals₀ ends₀ sets₀ kinds₀ text-length₀ records-length₀ left₀ unit text records label literals ends sets kinds text-length records-length left =
@@ -20,103 +20,78 @@ abbrev μ-loop : tie.MeasureT-loop
 μ-loop file count unit₀ text₀ records₀ label₀ literals₀ ends₀ sets₀ kinds₀ text-length₀ records-length₀ left₀ unit text records label literals ends sets kinds text-length records-length left =
     left
 
--- src/main.rt:123:5
 loop-holds : tie.Need-loop-holds Inv-loop μ-loop
 loop-holds c = search needs
 
--- src/main.rt:124:41
 slice-aggregate-read-string : tie.Need-slice-aggregate-read-string Inv-loop μ-loop
 slice-aggregate-read-string c = search needs
 
--- src/main.rt:124:52
 slice-aggregate-read-string-2 : tie.Need-slice-aggregate-read-string-2 Inv-loop μ-loop
 slice-aggregate-read-string-2 c = search needs
 
--- src/main.rt:124:9
 read-string-requires : tie.Need-read-string-requires Inv-loop μ-loop
 read-string-requires c κs = search needs
 
--- src/main.rt:125:44
 slice-aggregate-read-string-3 : tie.Need-slice-aggregate-read-string-3 Inv-loop μ-loop
 slice-aggregate-read-string-3 c = search needs
 
--- src/main.rt:125:55
 slice-aggregate-read-string-4 : tie.Need-slice-aggregate-read-string-4 Inv-loop μ-loop
 slice-aggregate-read-string-4 c = search needs
 
--- src/main.rt:125:9
 read-string-requires-2 : tie.Need-read-string-requires-2 Inv-loop μ-loop
 read-string-requires-2 c κs = search needs
 
--- src/main.rt:126:46
 slice-aggregate-read-string-5 : tie.Need-slice-aggregate-read-string-5 Inv-loop μ-loop
 slice-aggregate-read-string-5 c = search needs
 
--- src/main.rt:126:57
 slice-aggregate-read-string-6 : tie.Need-slice-aggregate-read-string-6 Inv-loop μ-loop
 slice-aggregate-read-string-6 c = search needs
 
--- src/main.rt:126:13
 read-string-requires-3 : tie.Need-read-string-requires-3 Inv-loop μ-loop
 read-string-requires-3 c κs = search needs
 
--- src/main.rt:128:13
 array-share-prefix-label : tie.Need-array-share-prefix-label Inv-loop μ-loop
 array-share-prefix-label c = search needs
 
--- src/main.rt:128:13
 slice-aggregate-print-case : tie.Need-slice-aggregate-print-case Inv-loop μ-loop
 slice-aggregate-print-case c = sym (length-take-le _ _ (c .before .before .before .read-string3 .ensures))
 
--- src/main.rt:129:13
 array-share-prefix-text : tie.Need-array-share-prefix-text Inv-loop μ-loop
 array-share-prefix-text c = search needs
 
--- src/main.rt:129:13
 slice-aggregate-print-case-2 : tie.Need-slice-aggregate-print-case-2 Inv-loop μ-loop
 slice-aggregate-print-case-2 c = sym (length-take-le _ _ (c .before .before .before .before .before .before .before .before .before .before .before .before .before .before .read-string .ensures))
 
--- src/main.rt:130:13
 array-share-prefix-records : tie.Need-array-share-prefix-records Inv-loop μ-loop
 array-share-prefix-records c = search needs
 
--- src/main.rt:130:13
 slice-aggregate-print-case-3 : tie.Need-slice-aggregate-print-case-3 Inv-loop μ-loop
 slice-aggregate-print-case-3 c = sym (length-take-le _ _ (c .before .before .before .before .before .before .before .before .before .before .read-string2 .ensures))
 
--- src/main.rt:131:13
 slice-aggregate-print-case-4 : tie.Need-slice-aggregate-print-case-4 Inv-loop μ-loop
 slice-aggregate-print-case-4 c = search needs
 
--- src/main.rt:132:13
 slice-aggregate-print-case-5 : tie.Need-slice-aggregate-print-case-5 Inv-loop μ-loop
 slice-aggregate-print-case-5 c = search needs
 
--- src/main.rt:133:13
 slice-aggregate-print-case-6 : tie.Need-slice-aggregate-print-case-6 Inv-loop μ-loop
 slice-aggregate-print-case-6 c = search needs
 
--- src/main.rt:134:13
 slice-aggregate-print-case-7 : tie.Need-slice-aggregate-print-case-7 Inv-loop μ-loop
 slice-aggregate-print-case-7 c = search needs
 
--- src/main.rt:127:9
 print-case-requires : tie.Need-print-case-requires Inv-loop μ-loop
 print-case-requires c κs = search needs
 
--- src/main.rt:136:9
 sub-left : tie.Need-sub-left Inv-loop μ-loop
 sub-left c = search needs
 
--- src/main.rt:123:5
 loop-less : tie.Need-loop-less Inv-loop μ-loop
 loop-less c = search needs
 
--- src/main.rt:123:5
 loop-again : tie.Need-loop-again Inv-loop μ-loop
 loop-again c = search needs
 
--- src/main.rt:111:1
 returns : tie.Need-returns Inv-loop μ-loop
 returns c = search needs
 

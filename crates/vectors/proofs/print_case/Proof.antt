@@ -10,82 +10,63 @@ use Rattle.vectors.proofs.print_case.Lts as lts
 use Rattle.io.proofs.write_all.Reads as write-all-reads
 use Rattle.verdict.proofs.judge.judge.Reads as judge-reads
 
--- src/main.rt:92:76
 slice-aggregate-judge : tie.Need-slice-aggregate-judge
 slice-aggregate-judge c = search needs
 
--- src/main.rt:92:9
 judge-requires : tie.Need-judge-requires
 judge-requires c κs = search needs
 
--- src/main.rt:93:5
 write-all-requires : tie.Need-write-all-requires
 write-all-requires c κs = search needs
 
--- src/main.rt:94:34
 slice-aggregate-write-all : tie.Need-slice-aggregate-write-all
 slice-aggregate-write-all c = search needs
 
--- src/main.rt:94:5
 write-all-requires-2 : tie.Need-write-all-requires-2
 write-all-requires-2 c κs = search needs
 
--- src/main.rt:95:27
 enum-known-written : tie.Need-enum-known-written
 enum-known-written c = search needs
 
--- src/main.rt:96:38
 array-share-prefix-out : tie.Need-array-share-prefix-out
 array-share-prefix-out c = written-inside _ _ _ (c .before .before .before .before .before .before .before .before .before .before .before .before .before .before .judge .ensures .0) (c .before .before .before .before .before .before .before .before .before .before .before .before .before .before .judge .ensures .1) (c .before .written .given .1)
 
--- src/main.rt:96:38
 slice-aggregate-write-all-2 : tie.Need-slice-aggregate-write-all-2
 slice-aggregate-write-all-2 c = sym (length-take-le _ _ (written-inside _ _ _ (c .before .before .before .before .before .before .before .before .before .before .before .before .before .before .before .judge .ensures .0) (c .before .before .before .before .before .before .before .before .before .before .before .before .before .before .before .judge .ensures .1) (c .before .before .written .given .1)))
 
--- src/main.rt:96:9
 write-all-requires-3 : tie.Need-write-all-requires-3
 write-all-requires-3 c κs = search needs
 
 enum-told : tie.Need-enum-told
 enum-told c = search needs
 
--- src/main.rt:82:1
 same-length : tie.Need-same-length
 same-length c = search needs
 
--- src/main.rt:82:1
 same-length-2 : tie.Need-same-length-2
 same-length-2 c = search needs
 
--- src/main.rt:82:1
 same-length-3 : tie.Need-same-length-3
 same-length-3 c = search needs
 
--- src/main.rt:82:1
 same-length-4 : tie.Need-same-length-4
 same-length-4 c = search needs
 
--- src/main.rt:82:1
 returns : tie.Need-returns
 returns c = search needs
 
--- src/main.rt:82:1
 same-length-5 : tie.Need-same-length-5
 same-length-5 c = search needs
 
--- src/main.rt:82:1
 same-length-6 : tie.Need-same-length-6
 same-length-6 c = search needs
 
--- src/main.rt:82:1
 same-length-7 : tie.Need-same-length-7
 same-length-7 c = search needs
 
--- src/main.rt:82:1
 same-length-8 : tie.Need-same-length-8
 same-length-8 c = search needs
 
--- src/main.rt:82:1
 returns-2 : tie.Need-returns-2
 returns-2 c = search needs
 

@@ -4,12 +4,12 @@ use Prim.Native.Nat.{_+_, _≤_, _-_}
 use native.Mathlib.Omega.{arith}
 use lib.ListN.{length}
 use borrow.Author.Needs.{needs}
-use Rattle.vectors.proofs.read_string.Statement.{statement}
-use Rattle.vectors.proofs.read_string.Tie as tie
-use Rattle.vectors.proofs.read_string.Reads as reads
-use Rattle.vectors.proofs.read_string.Lts as lts
-use Rattle.vectors.proofs.read_number.Reads as read-number-reads
-use Rattle.vectors.proofs.read_run.Reads as read-run-reads
+use Rattle.packed.proofs.read_string.Statement.{statement}
+use Rattle.packed.proofs.read_string.Tie as tie
+use Rattle.packed.proofs.read_string.Reads as reads
+use Rattle.packed.proofs.read_string.Lts as lts
+use Rattle.packed.proofs.read_number.Reads as read-number-reads
+use Rattle.packed.proofs.read_run.Reads as read-run-reads
 
 abbrev Inv-loop : tie.InvT-loop
 Inv-loop file unit₀ bytes₀ before left₀ done₀ unit bytes left done = (done ≤ length bytes) × (length bytes ≡ length bytes₀) × (length unit ≡ length unit₀)
@@ -17,43 +17,33 @@ Inv-loop file unit₀ bytes₀ before left₀ done₀ unit bytes left done = (do
 abbrev μ-loop : tie.MeasureT-loop
 μ-loop file unit₀ bytes₀ before left₀ done₀ unit bytes left done = left
 
--- src/main.rt:79:9
 read-number-requires : tie.Need-read-number-requires Inv-loop μ-loop
 read-number-requires c κs = search needs
 
--- src/main.rt:81:9
 returns : tie.Need-returns Inv-loop μ-loop
 returns c = search needs
 
--- src/main.rt:84:5
 loop-holds : tie.Need-loop-holds Inv-loop μ-loop
 loop-holds c = search needs
 
--- src/main.rt:85:9
 read-run-requires : tie.Need-read-run-requires Inv-loop μ-loop
 read-run-requires c κs = search needs
 
--- src/main.rt:86:9
 sub-left : tie.Need-sub-left Inv-loop μ-loop
 sub-left c = search needs
 
--- src/main.rt:84:5
 loop-less : tie.Need-loop-less Inv-loop μ-loop
 loop-less c = search needs
 
--- src/main.rt:84:5
 loop-again : tie.Need-loop-again Inv-loop μ-loop
 loop-again c = search needs
 
--- src/main.rt:75:1
 same-length : tie.Need-same-length Inv-loop μ-loop
 same-length c = search needs
 
--- src/main.rt:75:1
 same-length-2 : tie.Need-same-length-2 Inv-loop μ-loop
 same-length-2 c = search needs
 
--- src/main.rt:75:1
 returns-2 : tie.Need-returns-2 Inv-loop μ-loop
 returns-2 c = search needs
 

@@ -1,73 +1,59 @@
 -- `read_run`: what is read stays inside its buffer.
-use Rattle.vectors.proofs.Laws.{front-longer}
+use Rattle.packed.proofs.Laws.{front-longer}
 use borrow.Author.Needs.{needs}
 use mathlib.Core.Path.{sym}
 use native.Mathlib.Omega.{arith}
 use lib.Seq.{length-take-le}
 use lib.ListN.{drop}
-use Rattle.vectors.proofs.read_run.Statement.{statement}
-use Rattle.vectors.proofs.read_run.Tie as tie
-use Rattle.vectors.proofs.read_run.Reads as reads
-use Rattle.vectors.proofs.read_run.Lts as lts
+use Rattle.packed.proofs.read_run.Statement.{statement}
+use Rattle.packed.proofs.read_run.Tie as tie
+use Rattle.packed.proofs.read_run.Reads as reads
+use Rattle.packed.proofs.read_run.Lts as lts
 use Rattle.files.proofs.read_whole.Reads as read-whole-reads
-use Rattle.vectors.proofs.append_times.Reads as append-times-reads
-use Rattle.vectors.proofs.read_number.Reads as read-number-reads
+use Rattle.packed.proofs.append_times.Reads as append-times-reads
+use Rattle.packed.proofs.read_number.Reads as read-number-reads
 
--- src/main.rt:62:9
 read-number-requires : tie.Need-read-number-requires
 read-number-requires c κs = search needs
 
--- src/main.rt:63:9
 read-number-requires-2 : tie.Need-read-number-requires-2
 read-number-requires-2 c κs = search needs
 
--- src/main.rt:65:9
 returns : tie.Need-returns
 returns c = search needs
 
--- src/main.rt:67:41
 slice-relend-prefix-read-whole : tie.Need-slice-relend-prefix-read-whole
 slice-relend-prefix-read-whole c = search needs
 
--- src/main.rt:67:41
 slice-aggregate-read-whole : tie.Need-slice-aggregate-read-whole
 slice-aggregate-read-whole c = sym (length-take-le _ _ (c .before .if1 .left))
 
--- src/main.rt:67:9
 read-whole-requires : tie.Need-read-whole-requires
 read-whole-requires c κs = search needs
 
--- src/main.rt:69:9
 same-length : tie.Need-same-length
 same-length c = search needs
 
--- src/main.rt:69:9
 returns-2 : tie.Need-returns-2
 returns-2 c = search needs
 
--- src/main.rt:71:18
 slice-reshare-prefix-append-times : tie.Need-slice-reshare-prefix-append-times
 slice-reshare-prefix-append-times c = search needs
 
--- src/main.rt:71:18
 slice-aggregate-append-times : tie.Need-slice-aggregate-append-times
 slice-aggregate-append-times c =
     let rest = drop (c .before .before .before .before .before .before .before .read-number2 .result) (c .before .before .before .before .before .before .before .before .before .before .before .args .unit .now) in
     sym (length-take-le _ _ (front-longer (c .before .before .before .before .read-whole .last .1 .0) rest (c .before .before .before .before .read-whole .ensures) (c .before .if2 .left)))
 
--- src/main.rt:71:5
 append-times-requires : tie.Need-append-times-requires
 append-times-requires c κs = search needs
 
--- src/main.rt:58:1
 same-length-2 : tie.Need-same-length-2
 same-length-2 c = search needs
 
--- src/main.rt:58:1
 same-length-3 : tie.Need-same-length-3
 same-length-3 c = search needs
 
--- src/main.rt:58:1
 returns-3 : tie.Need-returns-3
 returns-3 c = search needs
 

@@ -4,11 +4,11 @@ use Prim.Native.Nat.{_+_, _≤_, _-_}
 use native.Mathlib.Omega.{arith}
 use lib.ListN.{length}
 use borrow.Author.Needs.{needs}
-use Rattle.vectors.proofs.append_times.Statement.{statement}
-use Rattle.vectors.proofs.append_times.Tie as tie
-use Rattle.vectors.proofs.append_times.Reads as reads
-use Rattle.vectors.proofs.append_times.Lts as lts
-use Rattle.vectors.proofs.append.Reads as append-reads
+use Rattle.packed.proofs.append_times.Statement.{statement}
+use Rattle.packed.proofs.append_times.Tie as tie
+use Rattle.packed.proofs.append_times.Reads as reads
+use Rattle.packed.proofs.append_times.Lts as lts
+use Rattle.packed.proofs.append.Reads as append-reads
 
 abbrev Inv-loop : tie.InvT-loop
 Inv-loop unit times bytes₀ done left₀ end₀ bytes left end = (end ≤ length bytes) × (length bytes ≡ length bytes₀)
@@ -16,31 +16,24 @@ Inv-loop unit times bytes₀ done left₀ end₀ bytes left end = (end ≤ lengt
 abbrev μ-loop : tie.MeasureT-loop
 μ-loop unit times bytes₀ done left₀ end₀ bytes left end = left
 
--- src/main.rt:44:5
 loop-holds : tie.Need-loop-holds Inv-loop μ-loop
 loop-holds c = search needs
 
--- src/main.rt:45:9
 append-requires : tie.Need-append-requires Inv-loop μ-loop
 append-requires c κs = search needs
 
--- src/main.rt:46:9
 sub-left : tie.Need-sub-left Inv-loop μ-loop
 sub-left c = search needs
 
--- src/main.rt:44:5
 loop-less : tie.Need-loop-less Inv-loop μ-loop
 loop-less c = search needs
 
--- src/main.rt:44:5
 loop-again : tie.Need-loop-again Inv-loop μ-loop
 loop-again c = search needs
 
--- src/main.rt:38:1
 same-length : tie.Need-same-length Inv-loop μ-loop
 same-length c = search needs
 
--- src/main.rt:38:1
 returns : tie.Need-returns Inv-loop μ-loop
 returns c = search needs
 
