@@ -1,5 +1,6 @@
 // Takes the packed cases of cases.bin step by step and prints each label with what the public calls answer: the refusal of the load, or the answer of each step, the
 // counts and every clause as it is shown. The tables pass from case to case as the case before left them.
+mod first;
 mod shown;
 mod taken;
 mod told;
@@ -75,6 +76,7 @@ fn take_cases(file: i32, count: usize) {
 }
 
 fn main() {
+    first::tests();
     let file = os::open_read(b"cases.bin");
     if 0 <= file {
         let count = packed::read_number(file);

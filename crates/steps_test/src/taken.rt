@@ -12,6 +12,10 @@ fn number_of(answer: StepAnswer) -> u32 {
     }
 }
 
+pub fn print_answer(answer: StepAnswer) {
+    told::number(number_of(answer));
+}
+
 // One call for each record, for a cut last one, and for the empty rest behind a whole one. Each is lent all that is left of the list, of which it must read only the front;
 // and it goes on behind a refused one.
 pub fn take_steps(
@@ -28,7 +32,7 @@ pub fn take_steps(
         let stepped = step::step(&records[at..], literals, ends, sets, kinds, current);
         let next = stepped.state;
         let answer = stepped.answer;
-        told::number(number_of(answer));
+        print_answer(answer);
         current = next;
         at += 16;
     }

@@ -3,6 +3,7 @@
 
 use checker::calls::Lent;
 use checker::limits::RECORD;
+use checker::records::record;
 use checker::state::State;
 
 use crate::case::Case;
@@ -107,11 +108,30 @@ fn other_record(prover: &mut Prover) -> Vec<u8> {
     changed
 }
 
-/// What the program `steps_test` prints. The tables pass from case to case as
-/// the case before left them.
+/// What the program `steps_test` prints: the first tests of a step, then each
+/// case. The tables pass from case to case as the case before left them.
 pub fn printed(cases: &[Case]) -> String {
     let lent = &mut Lent::zero();
-    cases.iter().map(|case| told(lent, case)).collect()
+    let told = cases.iter().map(|case| told(lent, case));
+    std::iter::once(first_tests()).chain(told).collect()
+}
+
+/// The first tests of a step over zero tables. What is tested behind the test
+/// that is broken is wrong too.
+fn first_tests() -> String {
+    let zero = Lent::zero();
+    let mut wrong = zero.clone();
+    wrong.counts.steps = 1;
+    let mut short = [0; 4].map(|_| wrong.clone());
+    short[0].tables.literals.pop();
+    short[1].tables.ends.pop();
+    short[2].tables.sets.pop();
+    short[3].tables.kinds.pop();
+    let malformed = short.into_iter().chain([wrong, zero.clone()]);
+    let calls = malformed.map(|lent| (lent, 0)).chain([(zero, 1)]);
+    let answer = |(mut lent, kind)| answers(&mut lent, &record(kind, [0; 3]))[0];
+    let steps: Vec<u16> = calls.map(answer).collect();
+    format!("first tests\nsteps{}\n", listed(&steps))
 }
 
 fn told(lent: &mut Lent, case: &Case) -> String {
@@ -136,7 +156,7 @@ fn listed<T: ToString>(numbers: &[T]) -> String {
 /// For each record, a cut last one and the empty rest behind a whole one: 0 or
 /// the number of refusal. Each step has all that is left of the list.
 pub fn answers(lent: &mut Lent, records: &[u8]) -> Vec<u16> {
-    let mut answer = |at: usize| match lent.step(&records[at..]) {
+    let answer = |at: usize| match lent.step(&records[at..]) {
         Ok(()) => 0,
         Err((_, number)) => number.value(),
     };

@@ -30,14 +30,14 @@ part-step-end c = search needs
 step-requires : tie.Need-step-requires Inv-loop μ-loop
 step-requires c κs = search needs
 
-number-of-requires : tie.Need-number-of-requires Inv-loop μ-loop
-number-of-requires c κs = search needs
-
-number-requires : tie.Need-number-requires Inv-loop μ-loop
-number-requires c κs = search needs
+print-answer-requires : tie.Need-print-answer-requires Inv-loop μ-loop
+print-answer-requires c κs = search needs
 
 add-at : tie.Need-add-at Inv-loop μ-loop
-add-at c = omega (arith, c .before .before .before .before .before .before .before .before .before .before .before .before .before .before .before .before .loop-test .taken, c .before .before .before .before .before .before .before .before .before .before .before .before .before .before .before .before .before .before .before .before .before .before .good .0 .1)
+add-at c =
+    let head = c .before .before .before .before .before .before .before .before .before .before .before .before .before .before .before in
+    let start = head .before .before .before .before .before .before in
+    omega (arith, head .loop-test .taken, start .good .0 .1)
 
 loop-less : tie.Need-loop-less Inv-loop μ-loop
 loop-less c = search needs
@@ -71,8 +71,7 @@ take-steps-spec =
     part-step-start
     part-step-end
     step-requires
-    number-of-requires
-    number-requires
+    print-answer-requires
     add-at
     loop-less
     loop-again
