@@ -1,5 +1,4 @@
 // The steps of a list, one public call each.
-use super::told;
 use steps::StepAnswer;
 use steps::step;
 use tables::State;
@@ -13,7 +12,7 @@ fn number_of(answer: StepAnswer) -> u32 {
 }
 
 pub fn print_answer(answer: StepAnswer) {
-    told::number(number_of(answer));
+    printed::number(number_of(answer));
 }
 
 // One call for each record, for a cut last one, and for the empty rest behind a whole one. Each is lent all that is left of the list, of which it must read only the front;

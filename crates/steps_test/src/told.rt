@@ -1,18 +1,12 @@
-// Numbers as they are printed.
+// The refusal of a load, and the counts of a state.
 use libc::STDOUT_FILENO;
 use tables::State;
 
-// A number behind a space.
-pub fn number(value: u32) {
-    io::write_all(STDOUT_FILENO, b" ");
-    io::print_decimal(STDOUT_FILENO, value as u64);
-}
-
 // The line and the number of a refused load.
-pub fn refusal(line: u32, refused: u32) {
+pub fn refusal(line: u32, number: u32) {
     io::write_all(STDOUT_FILENO, b"\nformula");
-    number(line);
-    number(refused);
+    printed::number(line);
+    printed::number(number);
     io::write_all(STDOUT_FILENO, b"\n");
 }
 
@@ -20,17 +14,17 @@ pub fn refusal(line: u32, refused: u32) {
 pub fn counts(state: State) {
     io::write_all(STDOUT_FILENO, b"\ncounts");
     let bound = state.bound;
-    number(bound.0);
+    printed::number(bound.0);
     let variables = state.variables;
-    number(variables.0);
-    number(state.universals as u32);
+    printed::number(variables.0);
+    printed::number(state.universals as u32);
     let formula = state.formula;
-    number(formula.0);
+    printed::number(formula.0);
     let clauses = state.clauses;
-    number(clauses.0);
-    number(state.literals as u32);
+    printed::number(clauses.0);
+    printed::number(state.literals as u32);
     let steps = state.steps;
-    number(steps.0);
+    printed::number(steps.0);
     let empty = state.empty;
-    number(empty.0);
+    printed::number(empty.0);
 }

@@ -5,143 +5,110 @@ use Rattle.forms_test.proofs.write_shape.Tie as tie
 use Rattle.forms_test.proofs.write_shape.Reads as reads
 use Rattle.forms_test.proofs.write_shape.Lts as lts
 use Rattle.forms_test.proofs.write_clause.Reads as write-clause-reads
-use Rattle.forms_test.proofs.write_number.Reads as write-number-reads
 use Rattle.forms_test.proofs.write_numbers.Reads as write-numbers-reads
 use Rattle.forms_test.proofs.write_ranks.Reads as write-ranks-reads
 use Rattle.forms_test.proofs.write_universals.Reads as write-universals-reads
 use Rattle.io.proofs.write_all.Reads as write-all-reads
 
--- src/main.rt:84:30
 enum-told : tie.Need-enum-told
 enum-told c = search needs
 
--- src/main.rt:84:30
 slice-aggregate-write-all : tie.Need-slice-aggregate-write-all
 slice-aggregate-write-all c = search needs
 
--- src/main.rt:84:13
 write-all-requires : tie.Need-write-all-requires
 write-all-requires c κs = search needs
 
--- src/main.rt:86:23
 enum-known-shape : tie.Need-enum-known-shape
 enum-known-shape c = search needs
 
--- src/main.rt:87:30
 slice-aggregate-write-all-2 : tie.Need-slice-aggregate-write-all-2
 slice-aggregate-write-all-2 c = search needs
 
--- src/main.rt:87:13
 write-all-requires-2 : tie.Need-write-all-requires-2
 write-all-requires-2 c κs = search needs
 
--- src/main.rt:88:13
-write-number-requires : tie.Need-write-number-requires
-write-number-requires c κs = search needs
+number-requires : tie.Need-number-requires
+number-requires c κs = search needs
 
--- src/main.rt:89:13
-write-number-requires-2 : tie.Need-write-number-requires-2
-write-number-requires-2 c κs = search needs
+number-requires-2 : tie.Need-number-requires-2
+number-requires-2 c κs = search needs
 
--- src/main.rt:91:27
 enum-known-shape-2 : tie.Need-enum-known-shape-2
 enum-known-shape-2 c = search needs
 
--- src/main.rt:92:30
 slice-aggregate-write-all-3 : tie.Need-slice-aggregate-write-all-3
 slice-aggregate-write-all-3 c = search needs
 
--- src/main.rt:92:13
 write-all-requires-3 : tie.Need-write-all-requires-3
 write-all-requires-3 c κs = search needs
 
--- src/main.rt:93:13
 write-numbers-requires : tie.Need-write-numbers-requires
 unfolding countOf
 write-numbers-requires c κs = rw (c .before .before .before .shape2 .given .1) at (c .before .before .before .before .before .before .pre)
 
--- src/main.rt:94:13
 write-universals-requires : tie.Need-write-universals-requires
 unfolding countOf
 write-universals-requires c κs = rw (c .before .before .before .before .shape2 .given .1) at (c .before .before .before .before .before .before .before .pre)
 
--- src/main.rt:96:29
 enum-known-shape-3 : tie.Need-enum-known-shape-3
 enum-known-shape-3 c = search needs
 
--- src/main.rt:97:30
 slice-aggregate-write-all-4 : tie.Need-slice-aggregate-write-all-4
 slice-aggregate-write-all-4 c = search needs
 
--- src/main.rt:97:13
 write-all-requires-4 : tie.Need-write-all-requires-4
 write-all-requires-4 c κs = search needs
 
--- src/main.rt:98:13
 write-numbers-requires-2 : tie.Need-write-numbers-requires-2
 unfolding countOf
 write-numbers-requires-2 c κs = rw (c .before .before .before .shape3 .given .1) at (c .before .before .before .before .before .before .pre)
 
--- src/main.rt:100:26
 enum-known-shape-4 : tie.Need-enum-known-shape-4
 enum-known-shape-4 c = search needs
 
--- src/main.rt:101:30
 slice-aggregate-write-all-5 : tie.Need-slice-aggregate-write-all-5
 slice-aggregate-write-all-5 c = search needs
 
--- src/main.rt:101:13
 write-all-requires-5 : tie.Need-write-all-requires-5
 write-all-requires-5 c κs = search needs
 
--- src/main.rt:102:13
 write-numbers-requires-3 : tie.Need-write-numbers-requires-3
 unfolding countOf
 write-numbers-requires-3 c κs = rw (c .before .before .before .shape4 .given .1) at (c .before .before .before .before .before .before .pre)
 
--- src/main.rt:104:23
 enum-known-shape-5 : tie.Need-enum-known-shape-5
 enum-known-shape-5 c = search needs
 
--- src/main.rt:105:30
 slice-aggregate-write-all-6 : tie.Need-slice-aggregate-write-all-6
 slice-aggregate-write-all-6 c = search needs
 
--- src/main.rt:105:13
 write-all-requires-6 : tie.Need-write-all-requires-6
 write-all-requires-6 c κs = search needs
 
--- src/main.rt:106:13
 write-ranks-requires : tie.Need-write-ranks-requires
 unfolding countOf
 write-ranks-requires c κs = rw (c .before .before .before .shape5 .given .1) at (c .before .before .before .before .before .before .pre)
 
--- src/main.rt:107:13
 write-clause-requires : tie.Need-write-clause-requires
 unfolding countOf
 write-clause-requires c κs = rw (c .before .before .before .before .shape5 .given .1) at (c .before .before .before .before .before .before .before .pre)
 
--- src/main.rt:110:30
 enum-told-2 : tie.Need-enum-told-2
 enum-told-2 c = search needs
 
--- src/main.rt:110:30
 slice-aggregate-write-all-7 : tie.Need-slice-aggregate-write-all-7
 slice-aggregate-write-all-7 c = search needs
 
--- src/main.rt:110:13
 write-all-requires-7 : tie.Need-write-all-requires-7
 write-all-requires-7 c κs = search needs
 
--- src/main.rt:113:22
 slice-aggregate-write-all-8 : tie.Need-slice-aggregate-write-all-8
 slice-aggregate-write-all-8 c = search needs
 
--- src/main.rt:113:5
 write-all-requires-8 : tie.Need-write-all-requires-8
 write-all-requires-8 c κs = search needs
 
--- src/main.rt:79:1
 returns : tie.Need-returns
 returns c = search needs
 
@@ -155,8 +122,8 @@ write-shape-spec =
     enum-known-shape
     slice-aggregate-write-all-2
     write-all-requires-2
-    write-number-requires
-    write-number-requires-2
+    number-requires
+    number-requires-2
     enum-known-shape-2
     slice-aggregate-write-all-3
     write-all-requires-3

@@ -6,8 +6,6 @@ use lib.ListN.{length}
 use borrow.Author.Needs.{needs}
 use Rattle.packed.proofs.append.Statement.{statement}
 use Rattle.packed.proofs.append.Tie as tie
-use Rattle.packed.proofs.append.Reads as reads
-use Rattle.packed.proofs.append.Lts as lts
 
 abbrev Inv-loop : tie.InvT-loop
 Inv-loop unit bytes₀ done at₀ bytes at = (at ≤ length unit) × (done + length unit ≤ length bytes₀) × (length bytes ≡ length bytes₀)

@@ -6,9 +6,6 @@ use lib.ListN.{length}
 use borrow.Author.Needs.{needs}
 use Rattle.packed.proofs.append_times.Statement.{statement}
 use Rattle.packed.proofs.append_times.Tie as tie
-use Rattle.packed.proofs.append_times.Reads as reads
-use Rattle.packed.proofs.append_times.Lts as lts
-use Rattle.packed.proofs.append.Reads as append-reads
 
 abbrev Inv-loop : tie.InvT-loop
 Inv-loop unit times bytes₀ done left₀ end₀ bytes left end = (end ≤ length bytes) × (length bytes ≡ length bytes₀)
