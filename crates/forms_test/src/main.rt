@@ -4,17 +4,12 @@ ghost use lib.ListN.{length};
 ghost use Rattle.forms_test.specs.Counted.{Counted};
 use forms::form::Shape;
 
-fn write_number(number: u32) {
-    io::write_all(1, b" ");
-    io::print_decimal(1, number as u64);
-}
-
 fn write_numbers(numbers: &[u32], count: usize)
     requires { ⌜ count ≤ length (now numbers) ⌝ }
 {
     let mut i = 0;
     while i < count {
-        write_number(numbers[i]);
+        printed::number(numbers[i]);
         i += 1;
     }
 }
@@ -23,16 +18,10 @@ fn write_numbers(numbers: &[u32], count: usize)
 fn write_rank(rank: u32) {
     if 65535 < rank {
         io::write_all(1, b" rank");
-        write_number(rank);
+        printed::number(rank);
         return;
     }
-    let literal = ranks::literals::literal_of(rank);
-    io::write_all(1, b" ");
-    if literal < 0 {
-        io::write_all(1, b"-");
-    }
-    let variable = dqbf::literal::variable_of(literal);
-    io::print_decimal(1, variable as u64);
+    printed::literal(ranks::literals::literal_of(rank));
 }
 
 fn write_ranks(ranks: &[u32], count: usize)
@@ -85,8 +74,8 @@ fn write_shape(shape: Shape, numbers: &[u32])
         }
         Shape::Header(v, c) => {
             io::write_all(1, b"header");
-            write_number(v);
-            write_number(c);
+            printed::number(v);
+            printed::number(c);
         }
         Shape::Universals(n) => {
             io::write_all(1, b"universals");

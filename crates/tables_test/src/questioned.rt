@@ -6,23 +6,6 @@ use tables::ClauseNumber;
 use tables::State;
 use tables::VariableNumber;
 
-fn write_literal(literal: i16) {
-    io::write_all(1, b" ");
-    if literal < 0 {
-        io::write_all(1, b"-");
-    }
-    let variable = dqbf::literal::variable_of(literal);
-    io::print_decimal(1, variable as u64);
-}
-
-fn write_literals(clause: &[i16]) {
-    let mut i = 0;
-    while i < clause.len() {
-        write_literal(clause[i]);
-        i += 1;
-    }
-}
-
 fn write_refusal(number: u16) {
     io::write_all(1, b" refused ");
     io::print_decimal(1, number as u64);
@@ -62,7 +45,7 @@ fn write_clause(
     io::write_all(1, b"clause ");
     io::print_decimal(1, number as u64);
     io::write_all(1, b":");
-    write_literals(questions::show(literals, ends, sets, kinds, state, ClauseNumber(number)));
+    printed::literals(questions::show(literals, ends, sets, kinds, state, ClauseNumber(number)));
     write_length(questions::clause_length(
         literals,
         ends,

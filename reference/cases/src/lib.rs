@@ -15,6 +15,7 @@ pub mod published;
 pub mod random;
 pub mod seeded;
 pub mod shaped;
+pub mod stepped;
 pub mod tabled;
 
 use case::Case;

@@ -1,6 +1,7 @@
 //! `cases --seed S --count N` with `--out FILE`, `--dir DIR`, `--joined DIR` or
 //! `--lines FILE` writes cases; `--only PREFIX` keeps those whose label begins so.
-//! `cases --vectors DIR` writes the data and the stdout of the program `vectors`.
+//! `cases --vectors DIR` writes the data and the stdout of the program `vectors`,
+//! `cases --steps DIR` those of the program `steps_test`.
 
 #![forbid(unsafe_code)]
 
@@ -9,10 +10,12 @@ use std::io;
 use std::path::{Path, PathBuf};
 use std::process::ExitCode;
 
-use cases::{container, generate, packed, vectors};
+use cases::case::Case;
+use cases::{container, generate, packed, stepped, vectors};
 
 const USAGE: &str = "usage: cases [--seed S] [--count N] [--only PREFIX] \
-    [--out FILE] [--dir DIR] [--joined DIR] [--lines FILE] [--vectors DIR]";
+    [--out FILE] [--dir DIR] [--joined DIR] [--lines FILE] \
+    [--vectors DIR] [--steps DIR]";
 
 #[derive(Default)]
 struct Options {
@@ -24,6 +27,7 @@ struct Options {
     joined: Option<PathBuf>,
     lines: Option<PathBuf>,
     vectors: Option<PathBuf>,
+    steps: Option<PathBuf>,
 }
 
 fn options() -> Option<Options> {
@@ -40,24 +44,30 @@ fn options() -> Option<Options> {
             "--joined" => options.joined = Some(value.into()),
             "--lines" => options.lines = Some(value.into()),
             "--vectors" => options.vectors = Some(value.into()),
+            "--steps" => options.steps = Some(value.into()),
             _ => return None,
         }
     }
     Some(options)
 }
 
-/// The cases of the program `vectors`, as it has them in its folder.
-fn write_vectors(folder: &Path) -> io::Result<usize> {
-    let cases = vectors();
+/// The cases of a program of the library, as it has them in its folder, and
+/// what it prints.
+fn write_program(folder: &Path, cases: &[Case], printed: String) -> io::Result<usize> {
     fs::create_dir_all(folder.join("data"))?;
-    fs::write(folder.join("data/cases.bin"), packed::pack(&cases))?;
-    fs::write(folder.join("stdout"), packed::printed(&cases))?;
+    fs::write(folder.join("data/cases.bin"), packed::pack(cases))?;
+    fs::write(folder.join("stdout"), printed)?;
     Ok(cases.len())
 }
 
 fn write(options: &Options) -> io::Result<usize> {
     if let Some(folder) = options.vectors.as_deref() {
-        return write_vectors(folder);
+        let cases = vectors();
+        return write_program(folder, &cases, packed::printed(&cases));
+    }
+    if let Some(folder) = options.steps.as_deref() {
+        let cases = stepped::cases();
+        return write_program(folder, &cases, stepped::printed(&cases));
     }
     let mut cases = generate(options.seed, options.count);
     cases.retain(|case| case.label.starts_with(&options.only));

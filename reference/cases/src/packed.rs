@@ -1,4 +1,4 @@
-//! Cases for the program `vectors`, packed: every number is unsigned, 16 bits,
+//! Cases for the programs `vectors` and `steps_test`, packed: every number is unsigned, 16 bits,
 //! little-endian.
 //!
 //! A file is the number of cases, then for each its text, records and label. A

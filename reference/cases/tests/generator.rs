@@ -6,7 +6,9 @@ use std::sync::OnceLock;
 
 use cases::case::Case;
 use cases::container::{lines, pack, unpack};
-use cases::{fixed, generate, seeded};
+use cases::{fixed, generate, seeded, stepped};
+use checker::calls::Lent;
+use checker::limits::RECORD;
 
 /// Five thousand cases, made once for all tests.
 fn many() -> &'static [Case] {
@@ -136,12 +138,52 @@ fn no_step_applies_to_theorem_2() {
     assert!(steps.iter().all(|case| case.expected.starts_with("bad 1 ")));
 }
 
+/// The stored cases of a program of the library, and what it must print.
+fn assert_stored(program: &str, cases: &[Case], printed: &str) {
+    let folder = format!("{}/../../crates/{program}", env!("CARGO_MANIFEST_DIR"));
+    let read = |name: &str| std::fs::read(format!("{folder}/{name}")).expect(name);
+    assert!(read("data/cases.bin") == cases::packed::pack(cases));
+    assert!(read("stdout") == printed.as_bytes());
+}
+
 /// `cases --vectors crates/vectors` makes the two files again.
 #[test]
 fn the_vectors_are_up_to_date() {
     let cases = cases::vectors();
-    let folder = concat!(env!("CARGO_MANIFEST_DIR"), "/../../crates/vectors");
-    let read = |name: &str| std::fs::read(format!("{folder}/{name}")).expect(name);
-    assert!(read("data/cases.bin") == cases::packed::pack(&cases));
-    assert!(read("stdout") == cases::packed::printed(&cases).as_bytes());
+    assert_stored("vectors", &cases, &cases::packed::printed(&cases));
+}
+
+/// `cases --steps crates/steps_test` makes the two files again.
+#[test]
+fn the_steps_are_up_to_date() {
+    let cases = stepped::cases();
+    assert_stored("steps_test", &cases, &stepped::printed(&cases));
+}
+
+#[test]
+fn steps_go_on_behind_refused_ones() {
+    let lent = &mut Lent::zero();
+    let mut found: BTreeMap<u16, usize> = BTreeMap::new();
+    let (mut behind, mut forks, mut emptied, mut cut) = (0, 0, 0, 0);
+    for case in stepped::cases() {
+        if lent.load(&case.text).is_err() {
+            continue;
+        }
+        let answers = stepped::answers(lent, &case.records);
+        let refused = answers.iter().position(|&number| number != 0);
+        let later = &answers[refused.expect("the rest is empty at last")..];
+        behind += later.iter().filter(|&&number| number == 0).count();
+        for number in answers {
+            *found.entry(number).or_default() += 1;
+        }
+        let counts = lent.counts;
+        forks += counts.variables - counts.header_variables;
+        emptied += usize::from(counts.lowest_empty > counts.formula_clauses);
+        cut += usize::from(case.records.len() % RECORD > 0);
+    }
+    let numbers: Vec<u16> = found.keys().copied().collect();
+    assert_eq!(numbers, [0, 20, 21, 22, 23, 24, 25, 26, 27, 28, 29]);
+    assert!(found.values().all(|&count| count >= 15), "{found:?}");
+    assert!(behind > 500 && forks > 1_000, "{behind} {forks}");
+    assert!(emptied > 100 && cut > 50, "{emptied} {cut}");
 }

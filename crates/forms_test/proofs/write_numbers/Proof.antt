@@ -5,7 +5,6 @@ use Rattle.forms_test.proofs.write_numbers.Statement.{statement}
 use Rattle.forms_test.proofs.write_numbers.Tie as tie
 use Rattle.forms_test.proofs.write_numbers.Reads as reads
 use Rattle.forms_test.proofs.write_numbers.Lts as lts
-use Rattle.forms_test.proofs.write_number.Reads as write-number-reads
 
 abbrev Inv-loop : tie.InvT-loop
 Inv-loop numbers count i₀ i = i ≤ count
@@ -16,14 +15,14 @@ abbrev μ-loop : tie.MeasureT-loop
 loop-holds : tie.Need-loop-holds Inv-loop μ-loop
 loop-holds c = omega arith
 
-mul-write-number : tie.Need-mul-write-number Inv-loop μ-loop
-mul-write-number c = omega arith
+mul-number : tie.Need-mul-number Inv-loop μ-loop
+mul-number c = omega arith
 
-shared-slice-read-write-number : tie.Need-shared-slice-read-write-number Inv-loop μ-loop
-shared-slice-read-write-number c = omega arith
+shared-slice-read-number : tie.Need-shared-slice-read-number Inv-loop μ-loop
+shared-slice-read-number c = omega arith
 
-write-number-requires : tie.Need-write-number-requires Inv-loop μ-loop
-write-number-requires c κs = search needs
+number-requires : tie.Need-number-requires Inv-loop μ-loop
+number-requires c κs = search needs
 
 add-i : tie.Need-add-i Inv-loop μ-loop
 add-i c = omega arith
@@ -44,9 +43,9 @@ write-numbers-spec =
     Inv-loop
     μ-loop
     loop-holds
-    mul-write-number
-    shared-slice-read-write-number
-    write-number-requires
+    mul-number
+    shared-slice-read-number
+    number-requires
     add-i
     loop-less
     loop-again

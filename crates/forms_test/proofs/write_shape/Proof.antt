@@ -5,7 +5,6 @@ use Rattle.forms_test.proofs.write_shape.Tie as tie
 use Rattle.forms_test.proofs.write_shape.Reads as reads
 use Rattle.forms_test.proofs.write_shape.Lts as lts
 use Rattle.forms_test.proofs.write_clause.Reads as write-clause-reads
-use Rattle.forms_test.proofs.write_number.Reads as write-number-reads
 use Rattle.forms_test.proofs.write_numbers.Reads as write-numbers-reads
 use Rattle.forms_test.proofs.write_ranks.Reads as write-ranks-reads
 use Rattle.forms_test.proofs.write_universals.Reads as write-universals-reads
@@ -29,11 +28,11 @@ slice-aggregate-write-all-2 c = search needs
 write-all-requires-2 : tie.Need-write-all-requires-2
 write-all-requires-2 c κs = search needs
 
-write-number-requires : tie.Need-write-number-requires
-write-number-requires c κs = search needs
+number-requires : tie.Need-number-requires
+number-requires c κs = search needs
 
-write-number-requires-2 : tie.Need-write-number-requires-2
-write-number-requires-2 c κs = search needs
+number-requires-2 : tie.Need-number-requires-2
+number-requires-2 c κs = search needs
 
 enum-known-shape-2 : tie.Need-enum-known-shape-2
 enum-known-shape-2 c = search needs
@@ -123,8 +122,8 @@ write-shape-spec =
     enum-known-shape
     slice-aggregate-write-all-2
     write-all-requires-2
-    write-number-requires
-    write-number-requires-2
+    number-requires
+    number-requires-2
     enum-known-shape-2
     slice-aggregate-write-all-3
     write-all-requires-3

@@ -7,10 +7,6 @@ use lib.Seq.{length-take-le}
 use borrow.Author.Needs.{needs}
 use Rattle.vectors.proofs.judge_cases.Statement.{statement}
 use Rattle.vectors.proofs.judge_cases.Tie as tie
-use Rattle.vectors.proofs.judge_cases.Reads as reads
-use Rattle.vectors.proofs.judge_cases.Lts as lts
-use Rattle.vectors.proofs.print_case.Reads as print-case-reads
-use Rattle.vectors.proofs.read_string.Reads as read-string-reads
 
 abbrev Inv-loop : tie.InvT-loop
 Inv-loop file count unit₀ text₀ records₀ label₀ literals₀ ends₀ sets₀ kinds₀ text-length₀ records-length₀ left₀ unit text records label literals ends sets kinds text-length records-length left =

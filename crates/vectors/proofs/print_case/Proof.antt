@@ -5,10 +5,6 @@ use lib.Seq.{length-take-le}
 use Rattle.lines.proofs.Laws.Lines.{written-inside}
 use Rattle.vectors.proofs.print_case.Statement.{statement}
 use Rattle.vectors.proofs.print_case.Tie as tie
-use Rattle.vectors.proofs.print_case.Reads as reads
-use Rattle.vectors.proofs.print_case.Lts as lts
-use Rattle.io.proofs.write_all.Reads as write-all-reads
-use Rattle.verdict.proofs.judge.judge.Reads as judge-reads
 
 slice-aggregate-judge : tie.Need-slice-aggregate-judge
 slice-aggregate-judge c = search needs
@@ -29,10 +25,14 @@ enum-known-written : tie.Need-enum-known-written
 enum-known-written c = search needs
 
 array-share-prefix-out : tie.Need-array-share-prefix-out
-array-share-prefix-out c = written-inside _ _ _ (c .before .before .before .before .before .before .before .before .before .before .before .before .before .before .judge .ensures .0) (c .before .before .before .before .before .before .before .before .before .before .before .before .before .before .judge .ensures .1) (c .before .written .given .1)
+array-share-prefix-out c =
+    let told = c .before .before .before .before .before .before .before .before .before .before .before .before .before .before .judge .ensures in
+    written-inside _ _ _ (told .0) (told .1) (c .before .written .given .1)
 
 slice-aggregate-write-all-2 : tie.Need-slice-aggregate-write-all-2
-slice-aggregate-write-all-2 c = sym (length-take-le _ _ (written-inside _ _ _ (c .before .before .before .before .before .before .before .before .before .before .before .before .before .before .before .judge .ensures .0) (c .before .before .before .before .before .before .before .before .before .before .before .before .before .before .before .judge .ensures .1) (c .before .before .written .given .1)))
+slice-aggregate-write-all-2 c =
+    let told = c .before .before .before .before .before .before .before .before .before .before .before .before .before .before .before .judge .ensures in
+    sym (length-take-le _ _ (written-inside _ _ _ (told .0) (told .1) (c .before .before .written .given .1)))
 
 write-all-requires-3 : tie.Need-write-all-requires-3
 write-all-requires-3 c κs = search needs

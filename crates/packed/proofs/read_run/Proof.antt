@@ -1,17 +1,12 @@
 -- `read_run`: what is read stays inside its buffer.
-use Rattle.vectors.proofs.Laws.{front-longer}
+use Rattle.packed.proofs.Laws.{front-longer}
 use borrow.Author.Needs.{needs}
 use mathlib.Core.Path.{sym}
 use native.Mathlib.Omega.{arith}
 use lib.Seq.{length-take-le}
 use lib.ListN.{drop}
-use Rattle.vectors.proofs.read_run.Statement.{statement}
-use Rattle.vectors.proofs.read_run.Tie as tie
-use Rattle.vectors.proofs.read_run.Reads as reads
-use Rattle.vectors.proofs.read_run.Lts as lts
-use Rattle.files.proofs.read_whole.Reads as read-whole-reads
-use Rattle.vectors.proofs.append_times.Reads as append-times-reads
-use Rattle.vectors.proofs.read_number.Reads as read-number-reads
+use Rattle.packed.proofs.read_run.Statement.{statement}
+use Rattle.packed.proofs.read_run.Tie as tie
 
 read-number-requires : tie.Need-read-number-requires
 read-number-requires c κs = search needs
@@ -42,8 +37,10 @@ slice-reshare-prefix-append-times c = search needs
 
 slice-aggregate-append-times : tie.Need-slice-aggregate-append-times
 slice-aggregate-append-times c =
-    let rest = drop (c .before .before .before .before .before .before .before .read-number2 .result) (c .before .before .before .before .before .before .before .before .before .before .before .args .unit .now) in
-    sym (length-take-le _ _ (front-longer (c .before .before .before .before .read-whole .last .1 .0) rest (c .before .before .before .before .read-whole .ensures) (c .before .if2 .left)))
+    let read = c .before .before .before .before in
+    let sized = read .before .before .before in
+    let rest = drop (sized .read-number2 .result) (sized .before .before .before .before .args .unit .now) in
+    sym (length-take-le _ _ (front-longer (read .read-whole .last .1 .0) rest (read .read-whole .ensures) (c .before .if2 .left)))
 
 append-times-requires : tie.Need-append-times-requires
 append-times-requires c κs = search needs

@@ -4,11 +4,8 @@ use Prim.Native.Nat.{_+_, _≤_, _-_}
 use native.Mathlib.Omega.{arith}
 use lib.ListN.{length}
 use borrow.Author.Needs.{needs}
-use Rattle.vectors.proofs.append_times.Statement.{statement}
-use Rattle.vectors.proofs.append_times.Tie as tie
-use Rattle.vectors.proofs.append_times.Reads as reads
-use Rattle.vectors.proofs.append_times.Lts as lts
-use Rattle.vectors.proofs.append.Reads as append-reads
+use Rattle.packed.proofs.append_times.Statement.{statement}
+use Rattle.packed.proofs.append_times.Tie as tie
 
 abbrev Inv-loop : tie.InvT-loop
 Inv-loop unit times bytes₀ done left₀ end₀ bytes left end = (end ≤ length bytes) × (length bytes ≡ length bytes₀)

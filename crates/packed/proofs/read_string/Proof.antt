@@ -4,12 +4,8 @@ use Prim.Native.Nat.{_+_, _≤_, _-_}
 use native.Mathlib.Omega.{arith}
 use lib.ListN.{length}
 use borrow.Author.Needs.{needs}
-use Rattle.vectors.proofs.read_string.Statement.{statement}
-use Rattle.vectors.proofs.read_string.Tie as tie
-use Rattle.vectors.proofs.read_string.Reads as reads
-use Rattle.vectors.proofs.read_string.Lts as lts
-use Rattle.vectors.proofs.read_number.Reads as read-number-reads
-use Rattle.vectors.proofs.read_run.Reads as read-run-reads
+use Rattle.packed.proofs.read_string.Statement.{statement}
+use Rattle.packed.proofs.read_string.Tie as tie
 
 abbrev Inv-loop : tie.InvT-loop
 Inv-loop file unit₀ bytes₀ before left₀ done₀ unit bytes left done = (done ≤ length bytes) × (length bytes ≡ length bytes₀) × (length unit ≡ length unit₀)

@@ -4,10 +4,8 @@ use Prim.Native.Nat.{_+_, _≤_, _-_}
 use native.Mathlib.Omega.{arith}
 use lib.ListN.{length}
 use borrow.Author.Needs.{needs}
-use Rattle.vectors.proofs.append.Statement.{statement}
-use Rattle.vectors.proofs.append.Tie as tie
-use Rattle.vectors.proofs.append.Reads as reads
-use Rattle.vectors.proofs.append.Lts as lts
+use Rattle.packed.proofs.append.Statement.{statement}
+use Rattle.packed.proofs.append.Tie as tie
 
 abbrev Inv-loop : tie.InvT-loop
 Inv-loop unit bytes₀ done at₀ bytes at = (at ≤ length unit) × (done + length unit ≤ length bytes₀) × (length bytes ≡ length bytes₀)
