@@ -99,7 +99,7 @@ fn m10_a_repeated_literal_counts_once() {
 }
 
 #[test]
-fn the_rest_of_the_desk() {
+fn the_cases_that_are_not_marked() {
     let text = "p cnf 2 1\na 1 0\ne 2 0\n1 2 0\n";
     let minimum = i32::MIN as u32;
     assert_eq!(line(text, &[record(1, [1, 1, minimum])]), "bad 1 22");
