@@ -11,7 +11,7 @@
  * is changed then, except that a load zeroes a state of 16 bytes or more.
  *
  * Stack. No call uses the heap or recursion. A load was measured to use 91,648 bytes of stack, a run 25,808, a question or a shown clause 25,520
- * (docs/PERFORMANCE.md): lend a thread 128 KB. */
+ * (docs/PERFORMANCE.md): give a thread at least 128 KB of stack. */
 #ifndef KEFTHRUN_H
 #define KEFTHRUN_H
 

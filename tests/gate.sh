@@ -1,7 +1,7 @@
 #!/bin/sh
 # The tests of the gate beside the proofs: first those of the reference workspace,
-# then, once `rt ci` has proved every crate and begins with its edits, those on
-# the program and the archive. Without a verdict of `rt ci` in sight they wait.
+# then, once `rt ci` has proved every crate and begins with its edits, or has
+# ended, those on the program and the archive.
 set -eu
 cd "$(dirname "$0")/.."
 tests/reference.sh

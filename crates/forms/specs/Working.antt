@@ -1,5 +1,5 @@
 -- Working definitions: the calculus' definitions (dqbf, specs/Text.antt and specs/Reading.antt) in the shape that the loops walk.
--- Each says which official definition it is proved equal to; the proofs are in proofs/Laws/Bridge.antt and proofs/Laws/Pieces.antt.
+-- Each says which official definition it is proved equal to; the proofs are in proofs/Laws/Official.antt and proofs/Laws/Pieces.antt.
 -- Offers `lengthBefore`, `leading`, `words`, `wordsOf`, `digitsFrom`, `plusOne`, `rankOf`, `entryOf`, `isDigit`, `minusOf`, `digitOf`, `ranked`, `Leading`, `keyword`, `after`, `headerShape`, `Cut`, `Gathered`, `Listing`.
 use mathlib.Core.Path.{_≡_}
 use mathlib.Core.Bool.{Bool, true, false, cond, _&&_}

@@ -78,10 +78,10 @@ module _ (b : Buffers) (text : List ℕ) {a : Bool} (told : a ≡ whole b) where
   load-on h e = e ∙ rw (← told, not-false a h)
 
 -- a load reads no entry: of tables of the stated sizes only the kinds' entries past their size count
-load-blind : (kinds text : List ℕ) → 512 ≤ length kinds → (l l′ : List ℤ) (e e′ w w′ : List ℕ) → length l ≡ 8192 → length l′ ≡ 8192 → length e ≡ 2048 → length e′ ≡ 2048
+load-unread : (kinds text : List ℕ) → 512 ≤ length kinds → (l l′ : List ℤ) (e e′ w w′ : List ℕ) → length l ≡ 8192 → length l′ ≡ 8192 → length e ≡ 2048 → length e′ ≡ 2048
     → length w ≡ 512 → length w′ ≡ 512 → loadOf (tablesOf l e w kinds) text ≡ loadOf (tablesOf l′ e′ w′ kinds) text
 unfolding loadOf loadedOn spread Spread.over long every
-load-blind kinds text k l l′ e e′ w w′ p p′ q q′ r r′ =
+load-unread kinds text k l l′ e e′ w w′ p p′ q q′ r r′ =
     rw (
       p,
       p′,
@@ -106,7 +106,7 @@ module _ (b : Buffers) (text : List ℕ) (kinds-room : 512 ≤ length (b .kinds)
       → _≡_ {A = After} (record { buffers = buffersOf literals ends sets (t .kinds) state; result = n }) (loaded b (loadOf (tablesIn b) text))
   unfolding tablesIn loaded written
   load-told l e w p q u t r told lw ew sw tw nw =
-      let same = load-blind (b .kinds) text kinds-room l (literalsIn literalLimit (b .literals)) e (entries 2 clauseLimit (b .ends)) w (entries 8 variableLimit (b .sets))
+      let same = load-unread (b .kinds) text kinds-room l (literalsIn literalLimit (b .literals)) e (entries 2 clauseLimit (b .ends)) w (entries 8 variableLimit (b .sets))
       p (literals-length literalLimit (b .literals)) q (entries-length 2 clauseLimit (b .ends)) u (entries-length 8 variableLimit (b .sets)) in
       rw (lw, ew, sw, tw, nw) (ap (loaded b) (told ∙ same))
 

@@ -18,7 +18,7 @@ use Rattle.dqbf.proofs.Laws.Tests.{and-left, and-right}
 use Rattle.forms.specs.Working.{isNil, words, wordsOf, each, rankOf, entryOf, isDigit, ranked}
 use Rattle.forms.proofs.Laws.Numbers.{ten-more, ten-le}
 use Rattle.forms.proofs.Laws.Pieces.{pieces-some, some-words}
-use Rattle.forms.proofs.Laws.Bridge.{closed-none, closed-last, closed-more}
+use Rattle.forms.proofs.Laws.Official.{closed-none, closed-last, closed-more}
 
 -- ---- what the bytes of a list come to, behind a number v and a minus n
 

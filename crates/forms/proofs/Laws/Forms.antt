@@ -22,7 +22,7 @@ use Rattle.forms.specs.declared.form.Shape.{Shape}
 use Rattle.forms.specs.declared.form.Shape.the-variants.{Comment, Header, Universals, Existentials, Dependent, Malformed}
 use Rattle.forms.specs.declared.form.Shape.the-variants as shape
 use Rattle.forms.proofs.Laws.Pieces.{pieces-some, words-some, after-none, after-some}
-use Rattle.forms.proofs.Laws.Bridge.{form-empty, form-comment, form-space, form-words, closed-variables, closed-ranks}
+use Rattle.forms.proofs.Laws.Official.{form-empty, form-comment, form-space, form-words, closed-variables, closed-ranks}
 
 and-false : (t : Bool) → (t && false) ≡ false
 and-false true = refl
