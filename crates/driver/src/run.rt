@@ -3,8 +3,8 @@ ghost use mathlib.Core.Path.{_≡_};
 ghost use Prim.Native.Nat.{_≤_};
 ghost use lib.ListN.{length};
 ghost use Rattle.buffers.specs.Buffers.{buffersOf};
-ghost use Rattle.exports.specs.Calls.{After, runBytes, runWhole};
-ghost use Rattle.refusals.specs.Statements.{RunBytesSame};
+ghost use Rattle.exports.specs.Calls.{After, runWhole};
+ghost use Rattle.refusals.specs.Statements.{RunPromised};
 use codec::state as state_codec;
 use dqbf::limits::CLAUSE_LIMIT;
 use dqbf::limits::LITERAL_LIMIT;
@@ -65,13 +65,7 @@ pub extern "C" fn kefthrun_run(
     kinds: &mut [u8],
     state: &mut [u8],
 ) -> u64
-    ensures { λ r. ⌜ (_≡_ {A = After}
-        (record {
-          buffers = buffersOf (now (literals .exit)) (now (ends .exit)) (now (sets .exit)) (now (kinds .exit)) (now (state .exit));
-          result = r;
-        })
-        (runBytes (buffersOf (now (literals .entry)) (now (ends .entry)) (now (sets .entry)) (now (kinds .entry)) (now (state .entry))) (now (records .entry))))
-        × RunBytesSame (buffersOf (now (literals .entry)) (now (ends .entry)) (now (sets .entry)) (now (kinds .entry)) (now (state .entry)))
+    ensures { λ r. ⌜ RunPromised (buffersOf (now (literals .entry)) (now (ends .entry)) (now (sets .entry)) (now (kinds .entry)) (now (state .entry))) (now (records .entry))
         (record {
           buffers = buffersOf (now (literals .exit)) (now (ends .exit)) (now (sets .exit)) (now (kinds .exit)) (now (state .exit));
           result = r;

@@ -28,7 +28,7 @@ use Rattle.exports.specs.Calls.{After, AllBytes, loaded, loadShort, loadBytes, 
 use Rattle.exports.specs.Statements.Fields.{fields, loadFields, runFields}
 use Rattle.exports.proofs.Fields.{load-tells, run-tells}
 use Rattle.exports.proofs.RoundTrip.{same-bytes}
-use Rattle.refusals.specs.Statements.{RunBytesShort, LoadBytesShort, RunBytesSame, RunBytesStopped, Zeroed, zeroedBytes, LoadBytesZeroed}
+use Rattle.refusals.specs.Statements.{RunBytesShort, LoadBytesShort, RunPromised, RunBytesStopped, Zeroed, zeroedBytes, LoadBytesZeroed}
 use Rattle.refusals.proofs.Tables.{run-same, run-stopped, load-zeroed}
 
 -- ---- 1
@@ -70,7 +70,7 @@ module _ (b : Buffers) (records : List ℕ) where
       rw (whole-run w, same) (same-bytes b w k)
 
 -- what `kefthrun_run` promises of a call
-pub run-bytes-same : (b : Buffers) (records : List ℕ) → AllBytes b → {x : After} → x ≡ runBytes b records → (x ≡ runBytes b records) × RunBytesSame b x
+pub run-bytes-same : (b : Buffers) (records : List ℕ) → AllBytes b → {x : After} → x ≡ runBytes b records → RunPromised b records x
 run-bytes-same b records k {x} is = (is, λ step number f e. ap (λ (y : After). y .buffers) is ∙ by step number f (sym (ap (λ (y : After). fields (y .result)) is) ∙ e) (whole b) refl)
   where
     by : (step number : ℕ) → step ≤ 1 → fields (runBytes b records .result) ≡ runFields (Run.Bad (record { 0 = step }) number) → (c : Bool) → whole b ≡ c

@@ -12,7 +12,7 @@
 --     LoadZeroed         a refused formula leaves zeros over the stated sizes, the entries past them, and a zero state
 -- `loadBytes` and `runBytes` are the outcomes that the contracts of the exports `kefthrun_load` and `kefthrun_run` promise of the driver's buffers; `whole` is
 -- the test of number 1. `RunBytesSame` rests on every entry of a lent buffer being a byte. The prover knows that of each call, so the contract of `kefthrun_run`
--- promises `RunBytesSame` itself. The other exports write nothing: they borrow the buffers for reading.
+-- promises `RunBytesSame` itself (`RunPromised`). The other exports write nothing: they borrow the buffers for reading.
 --     RunBytesShort      number 1: a run leaves every buffer
 --     RunBytesSame       a run that is refused as a whole (1, 2, 11) or at its first record leaves every buffer, byte for byte
 --     RunBytesStopped    a run stopped at a step leaves the bytes that the run over the records before that step leaves
@@ -111,6 +111,10 @@ LoadBytesShort =
 -- the result tells a refusal at step 0 or 1
 abbrev pub RunBytesSame : Buffers → After → Type 0
 RunBytesSame b x = (step number : ℕ) → step ≤ 1 → fields (x .result) ≡ runFields (Run.Bad (record { 0 = step }) number) → x .buffers ≡ b
+
+-- what the contract of `kefthrun_run` says of a call on these buffers and records, with x behind it
+abbrev pub RunPromised : Buffers → List ℕ → After → Type 0
+RunPromised b records x = (x ≡ runBytes b records) × RunBytesSame b x
 
 -- the result tells a refusal at step k + 1
 abbrev pub RunBytesStopped : Type 0
