@@ -10,7 +10,7 @@
  * Results. A result has four 16-bit fields, the lowest first: the case, which is never 0, two values, and 0. Too few bytes in a buffer is refusal 1; nothing
  * is changed then, except that a load zeroes a state of 16 bytes or more.
  *
- * Stack. No call uses the heap or recursion. A load was measured to use 91,648 bytes of stack, a run 25,808, a question or a shown clause 25,520
+ * Stack. No call uses the heap or recursion. A load was measured to use 91,632 bytes of stack, a run 25,808, a question or a shown clause 25,504
  * (docs/PERFORMANCE.md): give a thread at least 128 KB of stack. */
 #ifndef KEFTHRUN_H
 #define KEFTHRUN_H
