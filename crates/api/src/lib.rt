@@ -1,14 +1,17 @@
-// The public calls of the library, the types of their arguments and answers, and the sizes of the tables. Everything else in the crates is internal: a
+// The public calls of the library, the types of their arguments and answers, and the sizes of tables, texts, lists and lines. Everything else in the crates is internal: a
 // function there may ask something of its caller (`requires`), a public call asks nothing.
 // The calls of a C or C++ driver are those of the crate `driver`.
 pub use additions::StepAnswer;
 pub use additions::Stepped;
 pub use dqbf::limits::CLAUSE_LIMIT;
 pub use dqbf::limits::LITERAL_LIMIT;
+pub use dqbf::limits::RECORDS_LIMIT;
+pub use dqbf::limits::TEXT_LIMIT;
 pub use dqbf::limits::VARIABLE_LIMIT;
 pub use dqdimacs::LoadAnswer;
 pub use dqdimacs::Loaded;
 pub use dqdimacs::load;
+pub use lines::line::LINE_SIZE;
 pub use lines::line::Written;
 pub use questions::LengthAnswer;
 pub use questions::VariableAnswer;

@@ -15,7 +15,10 @@ pub enum Verdict {
     Formula(u32, u32),
 }
 
-// How many bytes were written; or fewer than 32 were lent, and none is changed.
+// Bytes that are lent for a line: enough for every one.
+pub const LINE_SIZE: usize = 32;
+
+// How many bytes were written; or fewer than LINE_SIZE were lent, and none is changed.
 pub enum Written {
     Bytes(usize),
     TooShort,
@@ -90,7 +93,7 @@ fn write_word_two(out: &mut [u8], word: &[u8], n: u32, k: u32) -> usize
 pub fn write_line(out: &mut [u8], verdict: Verdict) -> Written
     ensures { λ r. ⌜ (r ≡ written (lineOf verdict) (now (out .entry))) × (now (out .exit) ≡ withLine (lineOf verdict) (now (out .entry))) ⌝ }
 {
-    if out.len() < 32 {
+    if out.len() < LINE_SIZE {
         return Written::TooShort;
     }
     match verdict {

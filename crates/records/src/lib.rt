@@ -7,7 +7,8 @@ ghost use Rattle.dqbf.specs.Bytes.{number};
 ghost use Rattle.dqbf.specs.Record as Calculus;
 ghost use Rattle.records.specs.Record.{decodedIn};
 
-const RECORD_SIZE: usize = 16;
+// The bytes of a record.
+pub const RECORD_SIZE: usize = 16;
 
 // The three kinds of steps.
 pub enum Step {

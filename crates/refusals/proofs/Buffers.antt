@@ -1,5 +1,5 @@
 -- The claims of specs/Statements.antt about the driver's buffers.
-use mathlib.Core.Path.{_≡_, refl, sym, ap, _∙_}
+use mathlib.Core.Path.{_≡_, refl, sym, ap, ap₂, _∙_}
 use mathlib.Core.Bool.{Bool, true, false}
 use mathlib.Core.List.{List, [], _∷_, _++_, map, append-nil}
 use Prim.Native.Nat.{ℕ, zero, suc, _+_, _*_, _≤_}
@@ -8,12 +8,13 @@ use lib.ListN.{length, take, drop, replicate, length-replicate, replicate-append
 use native.Mathlib.Nat.{mul-zero, mul-suc}
 use native.Mathlib.Omega.{arith}
 use Rattle.dqbf.specs.Limits.{clauseLimit, literalLimit, variableLimit, recordSize}
-use Rattle.tables.specs.Spread.{zeroState}
+use Rattle.tables.specs.Spread.{spread, stateOf, zeroState}
 use Rattle.tables.specs.declared.State.{State}
 use Rattle.dqdimacs.specs.Loading.{AfterLoad, loadOf}
 use Rattle.dqdimacs.specs.declared.LoadAnswer.{LoadAnswer}
 use Rattle.dqdimacs.specs.declared.LoadAnswer.the-variants as Load
-use Rattle.steps.specs.Steps.{runOf}
+use Rattle.additions.specs.declared.StepAnswer.the-variants as Step
+use Rattle.steps.specs.Steps.{stepOf, runOf}
 use Rattle.steps.specs.Runs.{verdictIn}
 use Rattle.steps.specs.declared.RunAnswer.{RunAnswer}
 use Rattle.steps.specs.declared.RunAnswer.the-variants as Run
@@ -27,9 +28,9 @@ use Rattle.results.specs.Results.{packed, field, runResult}
 use Rattle.exports.specs.Calls.{After, AllBytes, loaded, loadShort, loadBytes, ran, runShort, runBytes}
 use Rattle.exports.specs.Statements.Fields.{fields, loadFields, runFields}
 use Rattle.exports.proofs.Fields.{load-tells, run-tells}
-use Rattle.exports.proofs.RoundTrip.{same-bytes}
+use Rattle.exports.proofs.RoundTrip.{same-bytes, read-back}
 use Rattle.refusals.specs.Statements.{RunBytesShort, LoadBytesShort, RunPromised, RunBytesStopped, Zeroed, zeroedBytes, LoadBytesZeroed}
-use Rattle.refusals.proofs.Tables.{run-same, run-stopped, load-zeroed}
+use Rattle.refusals.proofs.Tables.{run-holds, run-same, run-stopped, load-zeroed}
 
 -- ---- 1
 
@@ -78,16 +79,38 @@ run-bytes-same b records k {x} is = (is, λ step number f e. ap (λ (y : After).
     by step number f e true w = same-whole b records k step number f w e
     by step number f e false w = ap (λ (y : After). y .buffers) (run-bytes-short b records w)
 
+-- what a stopped run leaves is read back
+module _ (b : Buffers) (records : List ℕ) (k number : ℕ) (w : whole b ≡ true) (e : fields (runBytes b records .result) ≡ runFields (Run.Bad (record { 0 = suc k }) number)) where
+  answered : runOf (tablesIn b) (stateIn b) records .answer ≡ Run.Bad (record { 0 = suc k }) number
+  answered = run-answer b records (suc k) number w e
+
+  left-back : (tablesIn (runBytes b records .buffers) ≡ runOf (tablesIn b) (stateIn b) records .tables)
+      × (stateIn (runBytes b records .buffers) ≡ runOf (tablesIn b) (stateIn b) records .state)
+  unfolding ran
+  left-back =
+      let (m, valid, held, counts) = run-holds (tablesIn b) (stateIn b) records number k answered in
+      let left : runBytes b records .buffers ≡ written b (spread m (tablesIn b)) (stateOf m) =
+      ap (λ (x : After). x .buffers) (whole-run b records w) ∙ ap₂ (written b) held counts in
+      let back = read-back b m w valid in
+      (ap tablesIn left ∙ back .0 ∙ sym held, ap stateIn left ∙ back .1 ∙ sym counts)
+
+  stopped-left : (runBytes b (take (recordSize * k) records)
+      ≡ record { buffers = runBytes b records .buffers; result = runResult (verdictIn (stateIn (runBytes b records .buffers))) })
+      × (stepOf (tablesIn (runBytes b records .buffers)) (stateIn (runBytes b records .buffers)) (drop (recordSize * k) records) .answer ≡ Step.Refused number)
+  unfolding ran
+  stopped-left =
+      let stopped = run-stopped (tablesIn b) (stateIn b) records k number answered in
+      (rw (left-back .1, whole-run b (take (recordSize * k) records) w, stopped .0, whole-run b records w), rw (left-back .0, left-back .1) (stopped .1))
+
 pub run-bytes-stopped : RunBytesStopped
-unfolding ran runShort fields runFields runResult packed field
+unfolding runShort fields runFields runResult packed field
 run-bytes-stopped b records k number e = by (whole b) refl
   where
     by : (c : Bool) → whole b ≡ c
-        → runBytes b (take (recordSize * k) records)
-        ≡ record { buffers = runBytes b records .buffers; result = runResult (verdictIn (runOf (tablesIn b) (stateIn b) records .state)) }
-    by true w =
-        let stopped = run-stopped (tablesIn b) (stateIn b) records k number (run-answer b records (suc k) number w e) in
-        rw (whole-run b (take (recordSize * k) records) w, stopped .0, whole-run b records w)
+        → (runBytes b (take (recordSize * k) records)
+        ≡ record { buffers = runBytes b records .buffers; result = runResult (verdictIn (stateIn (runBytes b records .buffers))) })
+        × (stepOf (tablesIn (runBytes b records .buffers)) (stateIn (runBytes b records .buffers)) (drop (recordSize * k) records) .answer ≡ Step.Refused number)
+    by true w = stopped-left b records k number w e
     by false w =
         let told = sym (ap (λ (x : After). fields (x .result)) (run-bytes-short b records w)) ∙ e in
         absurd (let z : _≡_ {A = ℕ} 0 (suc k) = cc in omega (arith, z))

@@ -7,7 +7,7 @@ use lib.Dec.{eqb, ltb}
 use lib.ListN.{length, take, drop, getD, length-take, length-drop}
 use lib.Seq.{take-nil, drop-nil, take-take, drop-drop}
 use native.Mathlib.Omega.{arith}
-use borrow.Author.Tests.{ltb-false, le-ltb}
+use borrow.Author.Tests.{ltb-false, le-ltb, lt-ltb}
 use Rattle.dqbf.specs.Limits.{Room, tables, recordsLimit, recordSize}
 use Rattle.dqbf.specs.Refusal.{Refusal, refusal}
 use Rattle.dqbf.specs.Record.{stretches}
@@ -16,6 +16,8 @@ use Rattle.dqbf.specs.Rules.{add}
 use Rattle.dqbf.specs.Run.{Examined, accepts, refuses, after, examineBytes, Verdict, refuted, open′, bad, verdictOf, goOn, runFrom, run}
 use Rattle.dqbf.specs.Run as Calculus
 use Rattle.dqbf.specs.Valid.{Valid}
+use Rattle.dqbf.specs.Reading.{Loaded, accepted, refused, load}
+use Rattle.dqbf.proofs.LoadValid.{load-valid}
 use Rattle.dqbf.proofs.StepsKeepValid.{call-keeps}
 use Rattle.records.proofs.Laws.Records.{record-front}
 use Rattle.tables.specs.Tables.{Tables, modelIn}
@@ -23,15 +25,19 @@ use Rattle.tables.specs.Spread.{flat, endsFrom, kindRow, setRow, over, spread, 
 use Rattle.tables.specs.WellFormed.{long, wellFormed}
 use Rattle.tables.specs.declared.State.{State}
 use Rattle.tables.specs.declared.StepNumber.{StepNumber}
-use Rattle.tables.proofs.Laws.Spread.{model-held, state-held, valid-held, model-back, formed-spread, long-spread, blank-state}
-use Rattle.dqdimacs.specs.Loading.{loadShort, loadOf}
+use Rattle.tables.specs.Statements.{Framed}
+use Rattle.tables.proofs.Refinement.{rest-stays}
+use Rattle.tables.proofs.Laws.Spread.{model-held, state-held, valid-held, model-back, formed-spread, long-spread, blank-valid, blank-state}
+use Rattle.dqdimacs.specs.Loading.{loadedModel, loadedOn, loadShort, loadOf}
 use Rattle.dqdimacs.proofs.LoadFormed.{refused-zeroed}
 use Rattle.additions.specs.declared.StepAnswer.the-variants.{Refused}
 use Rattle.steps.specs.Steps.{AfterStep, stepAnswer, examined, stepRefused, stepOf, AfterRun, runAnswer, ranOn, runRefused, runOf}
 use Rattle.steps.specs.Runs.{recordsIn, verdictIn}
 use Rattle.steps.specs.declared.RunAnswer.the-variants.{Refuted, Open, Bad}
 use Rattle.steps.proofs.Laws.Runs.{stretches-enough}
-use Rattle.refusals.specs.Statements.{ShortSame, FormlessSame, StepSame, RunSame, RunStopped, LoadZeroed}
+use Rattle.lines.specs.Lines.{outputSize, written, withLine}
+use Rattle.verdict.proofs.Laws.Judging.{judged-refused, judged-ran}
+use Rattle.refusals.specs.Statements.{ShortSame, FormlessSame, StepSame, RunSame, RunStopped, LoadZeroed, RestSame, JudgeLeaves, JudgeShort}
 
 -- ---- 1 and 2
 
@@ -244,6 +250,19 @@ module _ (t : Tables) (s : State) (bytes : List ℕ) (n : ℕ) where
           rw (long-spread m v t (sym h), formed-spread m v t, model-back m v t, f .1) (ap Refused (q .2)),
         )
 
+    holds-by : (a b : Bool) → a ≡ long t → b ≡ wellFormed t s → runBy a b .answer ≡ Bad (record { 0 = suc k }) n
+        → (m : Model) × Valid tables m × (runBy a b .tables ≡ spread m t) × (runBy a b .state ≡ stateOf m)
+    unfolding runRefused ranOn
+    holds-by false b h j e = absurd (let z : _≡_ {A = StepNumber} (record { 0 = 0 }) (record { 0 = suc k }) = cc in omega (arith, ap (λ (i : StepNumber). i .0) z))
+    holds-by true false h j e = absurd (let z : _≡_ {A = StepNumber} (record { 0 = 0 }) (record { 0 = suc k }) = cc in omega (arith, ap (λ (i : StepNumber). i .0) z))
+    holds-by true true h j e = (run tables (modelIn t s) bytes .model, run-valid (modelIn t s) bytes (valid-held t s (sym h) (sym j)), refl, refl)
+
+    -- what a stopped run leaves is a valid model's
+    pub run-holds : runOf t s bytes .answer ≡ Bad (record { 0 = suc k }) n
+        → (m : Model) × Valid tables m × (runOf t s bytes .tables ≡ spread m t) × (runOf t s bytes .state ≡ stateOf m)
+    unfolding runOf
+    run-holds e = holds-by (long t) (wellFormed t s) refl refl e
+
 pub run-same : RunSame
 unfolding runOf
 run-same t s bytes step n f e = whole-by t s bytes n step f (long t) (wellFormed t s) refl refl e
@@ -266,3 +285,54 @@ load-zeroed t text line number h e =
       kinds = ap (λ (x : Tables). x .kinds) of;
       state = z .state;
     }
+
+-- ---- entries past the stated sizes
+
+module _ (t : Tables) where
+  framed-same : Framed t t
+  framed-same = record { literals = refl; ends = refl; sets = refl; kinds = refl }
+
+  load-framed : (b : Bool) (o : Loaded) → Valid tables (loadedModel o) → Framed t (cond (not b) (loadShort t) (loadedOn t o) .tables)
+  unfolding loadShort loadedOn
+  load-framed true o v = rest-stays (loadedModel o) v t
+  load-framed false o v = framed-same
+
+  loaded-valid : (text : List ℕ) (o : Loaded) → load text ≡ o → Valid tables (loadedModel o)
+  unfolding loadedModel
+  loaded-valid text (accepted φ) e = load-valid text φ e
+  loaded-valid text (refused l n) e = blank-valid
+
+  module _ (s : State) (bytes : List ℕ) where
+    step-framed : (a b : Bool) → a ≡ long t → b ≡ wellFormed t s
+        → Framed t (cond (not a) (stepRefused t s 1) (cond (not b) (stepRefused t s 2) (examined t (modelIn t s) (examineBytes tables (modelIn t s) bytes))) .tables)
+    unfolding stepRefused examined Calculus.next
+    step-framed false b h k = framed-same
+    step-framed true false h k = framed-same
+    step-framed true true h k =
+        let m = modelIn t s in
+        rest-stays (after m (examineBytes tables m bytes)) (call-keeps tables m (valid-held t s (sym h) (sym k)) (Calculus.stepCall bytes)) t
+
+    run-framed : (a b : Bool) → a ≡ long t → b ≡ wellFormed t s
+        → Framed t (cond (not a) (runRefused t s 1) (cond (not b) (runRefused t s 2) (ranOn t (run tables (modelIn t s) bytes))) .tables)
+    unfolding runRefused ranOn
+    run-framed false b h k = framed-same
+    run-framed true false h k = framed-same
+    run-framed true true h k = let m = modelIn t s in rest-stays (run tables m bytes .model) (run-valid m bytes (valid-held t s (sym h) (sym k))) t
+
+pub rest-same : RestSame
+unfolding loadOf stepOf runOf
+rest-same t s bytes =
+    (load-framed t (long t) (load bytes) (loaded-valid t bytes (load bytes) refl), step-framed t s bytes (long t) (wellFormed t s) refl refl, run-framed t s bytes (long t) (wellFormed t s) refl refl)
+
+-- ---- `judge`
+
+pub judge-leaves : JudgeLeaves
+judge-leaves t text records =
+    let loaded = loadOf t text in (
+      λ line number e. sym (judged-refused t text records (loaded .tables) {s = loaded .state} {a = loaded .answer} line number refl e .1),
+      λ e. sym (judged-ran t text records {t₁ = loaded .tables} {s = loaded .state} {l = loaded .answer} refl e refl .1),
+    )
+
+pub judge-short : JudgeShort
+unfolding written withLine
+judge-short line out h = (rw (lt-ltb (length out) outputSize h), rw (lt-ltb (length out) outputSize h))

@@ -2,14 +2,16 @@
 -- step"): what each refused call leaves.
 --
 -- `loadOf`, `stepOf` and `runOf` are the outcomes that the contracts of `load`, `step` and `run` promise of lent tables. So the claims hold of these calls for all
--- table contents, every state and all bytes; `long` is the test of number 1, `wellFormed` that of number 2. Entries past the stated sizes after a call that is
--- not refused: `RestStays` in the crate `tables`.
+-- table contents, every state and all bytes; `long` is the test of number 1, `wellFormed` that of number 2.
 --     ShortSame          number 1: load, step and run leave all four tables, step and run the state; a load hands back a zero state
 --     FormlessSame       number 2: step and run leave tables and state
 --     StepSame           a refused step, whatever its number, leaves tables and state
 --     RunSame            a run that is refused as a whole (step 0) or at its first record (step 1) leaves tables and state
 --     RunStopped         a run stopped at a step leaves what the run over the records before that step leaves
 --     LoadZeroed         a refused formula leaves zeros over the stated sizes, the entries past them, and a zero state
+--     RestSame           entries past the stated sizes stay, whatever a load, a step or a run answers
+--     JudgeLeaves        `judge` leaves the tables of the load or, behind an accepted one, those of the run, so that all of the above holds of it
+--     JudgeShort         with fewer bytes lent than a line may need, `judge` leaves these
 -- `loadBytes` and `runBytes` are the outcomes that the contracts of the exports `kefthrun_load` and `kefthrun_run` promise of the driver's buffers; `whole` is
 -- the test of number 1. `RunBytesSame` rests on every entry of a lent buffer being a byte. The prover knows that of each call, so the contract of `kefthrun_run`
 -- promises `RunBytesSame` itself (`RunPromised`). The other exports write nothing: they borrow the buffers for reading.
@@ -21,11 +23,12 @@
 use mathlib.Core.Path.{_≡_}
 use mathlib.Core.Bool.{true, false, cond}
 use mathlib.Core.List.{List, _++_}
-use Prim.Native.Nat.{ℕ, suc, _*_, _≤_}
+use Prim.Native.Nat.{ℕ, suc, _*_, _≤_, _<_}
 use lib.IntN.{pos}
-use lib.ListN.{replicate, take, drop}
+use lib.ListN.{length, replicate, take, drop}
 use Rattle.dqbf.specs.Limits.{clauseLimit, literalLimit, variableLimit, recordSize}
 use Rattle.tables.specs.Tables.{Tables}
+use Rattle.tables.specs.Statements.{Framed}
 use Rattle.tables.specs.Spread.{zeroState}
 use Rattle.tables.specs.WellFormed.{long, wellFormed}
 use Rattle.tables.specs.declared.State.{State}
@@ -35,6 +38,9 @@ use Rattle.additions.specs.declared.StepAnswer.the-variants as Step
 use Rattle.steps.specs.Steps.{stepOf, runOf}
 use Rattle.steps.specs.Runs.{verdictIn}
 use Rattle.steps.specs.declared.RunAnswer.the-variants as Run
+use Rattle.lines.specs.Lines.{outputSize, written, withLine}
+use Rattle.lines.specs.declared.line.Written.the-variants.{TooShort}
+use Rattle.verdict.specs.Judging.{judgedTables}
 use Rattle.codec.specs.Bytes.{over}
 use Rattle.buffers.specs.Buffers.{Buffers, buffersOf, stateSize, stateWhole, whole, tablesIn, stateIn}
 use Rattle.results.specs.Results.{loadResult, runResult}
@@ -92,6 +98,24 @@ pub record Zeroed (t : Tables) (x : AfterLoad) : Type 0 where
 abbrev pub LoadZeroed : Type 0
 LoadZeroed = (t : Tables) (text : List ℕ) (line number : ℕ) → long t ≡ true → loadOf t text .answer ≡ Load.Refused line number → Zeroed t (loadOf t text)
 
+-- ---- "Entries of a longer table past these counts are never changed"
+
+abbrev pub RestSame : Type 0
+RestSame =
+    (t : Tables) (s : State) (bytes : List ℕ) → Framed t (loadOf t bytes .tables) × Framed t (stepOf t s bytes .tables) × Framed t (runOf t s bytes .tables)
+
+-- ---- `judge`: a load, and a run where the text is accepted
+
+abbrev pub JudgeLeaves : Type 0
+JudgeLeaves =
+    (t : Tables) (text records : List ℕ)
+    → let loaded = loadOf t text in
+    ((line number : ℕ) → loaded .answer ≡ Load.Refused line number → judgedTables t text records ≡ loaded .tables)
+    × (loaded .answer ≡ Load.Accepted → judgedTables t text records ≡ runOf (loaded .tables) (loaded .state) records .tables)
+
+abbrev pub JudgeShort : Type 0
+JudgeShort = (line out : List ℕ) → length out < outputSize → (written line out ≡ TooShort) × (withLine line out ≡ out)
+
 -- ---- the driver's buffers: "too few bytes in any of them is 1, and nothing lent is changed then, except that a load zeroes a state lent whole"
 
 abbrev pub RunBytesShort : Type 0
@@ -116,12 +140,13 @@ RunBytesSame b x = (step number : ℕ) → step ≤ 1 → fields (x .result) ≡
 abbrev pub RunPromised : Buffers → List ℕ → After → Type 0
 RunPromised b records x = (x ≡ runBytes b records) × RunBytesSame b x
 
--- the result tells a refusal at step k + 1
+-- The result tells a refusal at step k + 1: on the tables and the state in the bytes that are left, that step is refused with that number.
 abbrev pub RunBytesStopped : Type 0
 RunBytesStopped =
     (b : Buffers) (records : List ℕ) (k number : ℕ) → fields (runBytes b records .result) ≡ runFields (Run.Bad (record { 0 = suc k }) number)
-    → let state = runOf (tablesIn b) (stateIn b) records .state in
-    runBytes b (take (recordSize * k) records) ≡ record { buffers = runBytes b records .buffers; result = runResult (verdictIn state) }
+    → let left = runBytes b records .buffers in
+    (runBytes b (take (recordSize * k) records) ≡ record { buffers = left; result = runResult (verdictIn (stateIn left)) })
+    × (stepOf (tablesIn left) (stateIn left) (drop (recordSize * k) records) .answer ≡ Step.Refused number)
 
 -- the bytes of 8,192, 2,048, 512 and 512 entries and of eight counts are 0
 unfoldable pub zeroedBytes : Buffers → Buffers

@@ -10,6 +10,7 @@ ghost use Rattle.records.specs.Record.{stepIn};
 ghost use Rattle.tables.specs.Tables.{tablesOf, modelIn};
 ghost use Rattle.additions.specs.Adding.{Holding, After};
 
+// Examines a step by the tests of its rule, on tables that hold a model; the run and the step come here.
 pub fn examine(
     step: Step,
     literals: &mut [i16],

@@ -5,6 +5,7 @@ use crate::StepAnswer;
 use additions::refusal;
 use dqbf::limits::RECORDS_LIMIT;
 use records::Decoded;
+use records::RECORD_SIZE;
 use rules::examine;
 use tables::State;
 use tables::StepNumber;
@@ -48,7 +49,7 @@ fn record_end(at: usize, length: usize) -> usize
     requires { ⌜ at ≤ Limits.recordsLimit ⌝ }
     ensures { λ r. ⌜ r ≡ min (at + Limits.recordSize) length ⌝ }
 {
-    let end = at + 16;
+    let end = at + RECORD_SIZE;
     if end < length {
         return end;
     }

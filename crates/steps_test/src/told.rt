@@ -1,6 +1,6 @@
 // The refusal of a load, and the counts of a state.
+use api::State;
 use libc::STDOUT_FILENO;
-use tables::State;
 
 // The line and the number of a refused load.
 pub fn refusal(line: u32, number: u32) {

@@ -1,4 +1,5 @@
 // Judges the packed cases of cases.bin and prints each label with its line. The tables pass from case to case as the case before left them.
+use api::LINE_SIZE;
 use api::Written;
 use libc::STDOUT_FILENO;
 
@@ -12,7 +13,7 @@ fn print_case(
     sets: &mut [u64],
     kinds: &mut [u8],
 ) {
-    let mut out = [0u8; 32];
+    let mut out = [0u8; LINE_SIZE];
     let written = api::judge(text, records, literals, ends, sets, kinds, &mut out);
     io::write_all(STDOUT_FILENO, label);
     io::write_all(STDOUT_FILENO, b": ");
