@@ -25,10 +25,13 @@ fn nothing_true_is_refuted_by_the_fast_checker() {
     tried_at_random(&mut Lean);
 }
 
-/// The fast checker, which answers refuted to some runs that are not: those of
-/// which the number of records and the case are told.
+/// Some runs: the number of records, the case, and the number of accepted
+/// steps if the case is 2.
+type Runs = fn(usize, u64, u64) -> bool;
+
+/// The fast checker, but it answers refuted to some runs.
 #[derive(Clone, Copy)]
-struct Wrong(fn(usize, u64) -> bool);
+struct Wrong(Runs);
 
 impl Library for Wrong {
     fn load(&mut self, text: &[u8], lent: Lent) -> u64 {
@@ -37,7 +40,7 @@ impl Library for Wrong {
 
     fn run(&mut self, records: &[u8], lent: Lent) -> u64 {
         let word = Lean.run(records, lent);
-        match self.0(records.len() / 16, word & 0xFFFF) {
+        match self.0(records.len() / 16, word & 0xFFFF, word >> 16 & 0xFFFF) {
             true => 1 | 1 << 16 | 1 << 32,
             false => word,
         }
@@ -72,20 +75,20 @@ fn a_wrong_answer_to_any_run_is_found() {
     let any = |mut wrong: Wrong| {
         tried_at_random(&mut wrong);
     };
-    let open: [fn(usize, u64) -> bool; 4] = [
-        |records, _| records == 0,
-        |records, _| records == 1,
-        |records, _| records > 0,
-        |records, case| records > 1 && case == 2,
+    let open: [Runs; 4] = [
+        |records, case, steps| records == 0 && case == 2 && steps > 0,
+        |records, case, _| records == 1 && case == 2,
+        |records, case, _| records > 1 && case == 2,
+        |records, _, _| records > 0,
     ];
     for wrong in open {
         assert!(finds(permitted, Wrong(wrong)));
         assert!(finds(any, Wrong(wrong)));
     }
     // Permitted steps are never bad.
-    let bad: [fn(usize, u64) -> bool; 2] = [
-        |records, case| records == 1 && case == 3,
-        |records, case| records > 1 && case == 3,
+    let bad: [Runs; 2] = [
+        |records, case, _| records == 1 && case == 3,
+        |records, case, _| records > 1 && case == 3,
     ];
     for wrong in bad {
         assert!(finds(any, Wrong(wrong)));
