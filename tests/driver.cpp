@@ -56,7 +56,9 @@ struct Buffers {
                              all[2].data(), all[2].size(), all[3].data(), all[3].size(), all[4].data(), all[4].size());
     }
     uint64_t run(const std::vector<uint8_t> &records) {
-        return kefthrun_run(records.data(), records.size(), all[0].data(), all[0].size(), all[1].data(), all[1].size(), all[2].data(), all[2].size(),
+        static const uint8_t none = 0;
+        const uint8_t *bytes = records.empty() ? &none : records.data(); // an empty vector's pointer may be null
+        return kefthrun_run(bytes, records.size(), all[0].data(), all[0].size(), all[1].data(), all[1].size(), all[2].data(), all[2].size(),
                             all[3].data(), all[3].size(), all[4].data(), all[4].size());
     }
     uint64_t ask(uint64_t (*call)(const uint8_t *, size_t, const uint8_t *, size_t, const uint8_t *, size_t, const uint8_t *, size_t, const uint8_t *,

@@ -10,6 +10,8 @@ mkdir -p "$out/other"
 strict="-std=c++17 -Wall -Wextra -Werror"
 archive=target/staticlib/libdriver.a
 check() {
+    g++ $strict $1 tests/pointers.cpp -o "$out/pointers"
+    "$out/pointers"
     g++ $strict $1 tests/driver.cpp $archive -o "$out/tests"
     "$out/tests"
     g++ $strict $1 examples/driver.cpp $archive -o "$out/driver"

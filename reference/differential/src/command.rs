@@ -59,6 +59,8 @@ fn options(mut arguments: impl Iterator<Item = String>) -> Option<Options> {
             _ => return None,
         }
     }
+    // A sum that wraps would leave nothing to compare.
+    options.first.checked_add(options.count)?;
     Some(options)
 }
 
@@ -85,13 +87,24 @@ pub fn main<L: Library + Send + Copy>(library: L) -> ExitCode {
 /// What a job has compared and found.
 #[derive(Default)]
 struct Tally {
+    scenarios: u64,
     calls: usize,
     lines: usize,
     failures: usize,
 }
 
-/// The number of scenarios that differ; each is written to a file.
+/// The number of scenarios that differ.
 fn compare_all<L: Library + Send + Copy>(options: &Options, library: L) -> io::Result<usize> {
+    let all = compared(options, library)?;
+    println!(
+        "{} scenarios, {} calls, {} lines: {} differ",
+        all.scenarios, all.calls, all.lines, all.failures
+    );
+    Ok(all.failures)
+}
+
+/// What all jobs have compared; each scenario that differs is written to a file.
+fn compared<L: Library + Send + Copy>(options: &Options, library: L) -> io::Result<Tally> {
     let scenarios = &Scenarios::new(options.seed);
     let tallies: io::Result<Vec<Tally>> = thread::scope(|scope| {
         let start = |number| scope.spawn(move || job(options, scenarios, number, library));
@@ -101,15 +114,12 @@ fn compare_all<L: Library + Send + Copy>(options: &Options, library: L) -> io::R
     });
     let mut all = Tally::default();
     for tally in tallies? {
+        all.scenarios += tally.scenarios;
         all.calls += tally.calls;
         all.lines += tally.lines;
         all.failures += tally.failures;
     }
-    println!(
-        "{} scenarios, {} calls, {} lines: {} differ",
-        options.count, all.calls, all.lines, all.failures
-    );
-    Ok(all.failures)
+    Ok(all)
 }
 
 /// Every so many scenarios from the job's number on. While it runs, the job's
@@ -128,11 +138,12 @@ fn job<L: Library>(
         None => None,
     };
     let mut tally = Tally::default();
-    let indices = options.first + number..options.first + options.count;
-    for index in indices.step_by(options.jobs as usize) {
+    let indices = options.first..options.first + options.count;
+    for index in indices.skip(number as usize).step_by(options.jobs as usize) {
         let at = format!("--seed {} --first {index} --count 1\n", options.seed);
         fs::write(folder.join("now"), at)?;
         let scenario = scenarios.scenario(index);
+        tally.scenarios += 1;
         tally.calls += scenario.calls.len();
         if let Some(found) = compare(&scenario, &mut library) {
             tally.failures += 1;
@@ -204,11 +215,26 @@ fn replay<L: Library>(file: &Path, mut library: L) -> io::Result<usize> {
 #[cfg(test)]
 mod tests {
     use super::*;
+    use crate::library::Lean;
+
+    #[test]
+    fn as_many_as_asked_are_compared() {
+        let folder = std::env::temp_dir().join(format!("command-{}", std::process::id()));
+        for (first, count, jobs) in [(0, 1, 1), (3, 7, 3), (u64::MAX - 2, 2, 5)] {
+            let line = format!("--first {first} --count {count} --jobs {jobs}");
+            let mut options = options(line.split(' ').map(String::from)).expect("options");
+            options.failures = folder.clone();
+            let all = compared(&options, Lean).expect("a folder");
+            assert_eq!((all.scenarios, all.failures), (count, 0), "{line}");
+        }
+        fs::remove_dir_all(folder).expect("a folder");
+    }
 
     #[test]
     fn a_comparison_of_nothing_is_refused() {
         let taken = |line: &str| options(line.split(' ').map(String::from)).is_some();
         assert!(taken("--count 1 --jobs 2 --seed 0 --first 0"));
+        assert!(taken("--first 18446744073709551613 --count 2"));
         for line in [
             "--count 0",
             "--jobs 0",
@@ -216,6 +242,10 @@ mod tests {
             "--jobs",
             "--count 1 --jobs 0",
             "--job 1",
+            "--first 18446744073709551615 --count 2",
+            "--first 18446744073709551614 --count 2",
+            "--count 18446744073709551615 --first 1",
+            "--first 18446744073709551615",
         ] {
             assert!(!taken(line), "{line}");
         }

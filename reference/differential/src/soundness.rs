@@ -24,13 +24,22 @@ pub struct Tally {
     pub refuted_with_forks: usize,
 }
 
+/// What a checker answers on a text and a list of steps.
+#[derive(Clone, Copy, Debug, Default)]
+pub struct Refuted {
+    /// Some run answers refuted: never on a formula that is true.
+    pub ever: bool,
+    /// Every run that has seen the whole list answers refuted.
+    pub at_the_end: bool,
+}
+
 /// Small random formulas, decided by trying all families of functions, and lists
 /// of permitted steps on them. Panics where a formula that is true is refuted.
 pub fn tally(
     size: Size,
     seed: u64,
     count: u64,
-    mut is_refuted: impl FnMut(&[u8], &[u8]) -> bool,
+    mut refuted: impl FnMut(&[u8], &[u8]) -> Refuted,
 ) -> Tally {
     let mut tally = Tally::default();
     for index in 0..count {
@@ -45,12 +54,12 @@ pub fn tally(
         prover.universal_pivots = prover.random.chance(30);
         prover.saturate(200);
         prover.wander(40);
-        let refuted = is_refuted(&text, &records_of(&prover.steps));
+        let refuted = refuted(&text, &records_of(&prover.steps));
         let shown = String::from_utf8_lossy(&text);
-        assert!(!(is_true && refuted), "true and refuted:\n{shown}");
+        assert!(!(is_true && refuted.ever), "true and refuted:\n{shown}");
         tally.decided_true += usize::from(is_true);
         tally.decided_false += usize::from(!is_true);
-        tally.refuted += usize::from(refuted);
+        tally.refuted += usize::from(refuted.at_the_end);
         let short = trimmed(&start, &prover.steps).unwrap_or_default();
         tally.refuted_with_forks += usize::from(records_of(&short).chunks(16).any(|r| r[0] == 3));
     }
@@ -59,9 +68,9 @@ pub fn tally(
 
 /// The whole search: 3,600 formulas of three sizes. It would find a checker that
 /// refutes too little, since most false formulas of these sizes are within reach.
-pub fn searched(mut is_refuted: impl FnMut(&[u8], &[u8]) -> bool) -> [Tally; 3] {
+pub fn searched(mut refuted: impl FnMut(&[u8], &[u8]) -> Refuted) -> [Tally; 3] {
     let sizes = [formulas::TINY, formulas::SMALL, formulas::FORKED];
-    let tallies = sizes.map(|size| tally(size, 11, 1_200, &mut is_refuted));
+    let tallies = sizes.map(|size| tally(size, 11, 1_200, &mut refuted));
     let sum = |part: fn(&Tally) -> usize| tallies.iter().map(part).sum::<usize>();
     assert!(sum(|t| t.decided_true) > 600, "{tallies:?}");
     assert!(sum(|t| t.decided_false) > 1_500, "{tallies:?}");
@@ -71,19 +80,53 @@ pub fn searched(mut is_refuted: impl FnMut(&[u8], &[u8]) -> bool) -> [Tally; 3] 
     tallies
 }
 
-/// The clauses that a library shows in its buffers.
-fn clauses(library: &mut impl Library, buffers: &mut Buffers) -> Vec<Vec<i32>> {
-    let mut found = Vec::new();
-    for number in 1.. {
-        if answer(library, buffers, &Call::Clause(number)) & 0xFFFF != 1 {
-            break;
+/// A library over buffers of the stated sizes, every run of which is judged.
+struct Judged<'a, L: Library> {
+    library: &'a mut L,
+    buffers: Buffers,
+    /// A run has answered refuted.
+    refuted: bool,
+}
+
+impl<L: Library> Judged<'_, L> {
+    fn new(library: &mut L) -> Judged<'_, L> {
+        Judged {
+            library,
+            buffers: Buffers::zero(),
+            refuted: false,
         }
-        let [_, start, length, _] = fields(answer(library, buffers, &Call::Show(number)));
-        let bytes = &buffers.0[0][2 * usize::from(start)..][..2 * usize::from(length)];
-        let literal = |pair: &[u8]| i32::from(i16::from_le_bytes([pair[0], pair[1]]));
-        found.push(bytes.chunks(2).map(literal).collect());
     }
-    found
+
+    fn answer(&mut self, call: &Call) -> u64 {
+        answer(self.library, &mut self.buffers, call)
+    }
+
+    /// Whether the text is accepted.
+    fn loads(&mut self, text: &[u8]) -> bool {
+        self.answer(&Call::Load(text.to_vec())) & 0xFFFF == 1
+    }
+
+    /// The case of a run: 1 refuted, 2 open, 3 bad.
+    fn run(&mut self, records: &[u8]) -> u64 {
+        let case = self.answer(&Call::Run(records.to_vec())) & 0xFFFF;
+        self.refuted |= case == 1;
+        case
+    }
+
+    /// The clauses that the library shows.
+    fn clauses(&mut self) -> Vec<Vec<i32>> {
+        let mut found = Vec::new();
+        for number in 1.. {
+            if self.answer(&Call::Clause(number)) & 0xFFFF != 1 {
+                break;
+            }
+            let [_, start, length, _] = fields(self.answer(&Call::Show(number)));
+            let bytes = &self.buffers.0[0][2 * usize::from(start)..][..2 * usize::from(length)];
+            let literal = |pair: &[u8]| i32::from(i16::from_le_bytes([pair[0], pair[1]]));
+            found.push(bytes.chunks(2).map(literal).collect());
+        }
+        found
+    }
 }
 
 /// A step on the clauses, right or wrong: a resolution on a literal and its
@@ -171,33 +214,46 @@ fn short_steps(clauses: &[Vec<i32>]) -> Vec<Step> {
     steps
 }
 
-/// Whether a library refutes the text by steps that are tried without regard to
-/// what is permitted: some at random, then short ones in rounds.
+/// Whether any run of a library on the text answers refuted, by steps that are
+/// tried without regard to what is permitted: some at random, then short ones in
+/// rounds, each step in a run of its own. Then all of them as one list, and the
+/// accepted ones as one list, each on the text loaded again.
 pub fn refutes_at_random(library: &mut impl Library, text: &[u8], random: &mut Random) -> bool {
-    let mut buffers = Buffers::zero();
-    if answer(library, &mut buffers, &Call::Load(text.to_vec())) & 0xFFFF != 1 {
+    let mut judged = Judged::new(library);
+    if !judged.loads(text) {
         return false;
     }
+    let (mut tried, mut accepted) = (Vec::new(), Vec::new());
+    let mut run = |judged: &mut Judged<_>, step: Step| {
+        let record = encode(step);
+        tried.extend(record);
+        if judged.run(&record) != 3 {
+            accepted.extend(record);
+        }
+    };
     // Few leave more room for the short ones, many reach more.
     for _ in 0..random.pick(&[12, 16, 40]) {
-        let clauses = clauses(library, &mut buffers);
+        let clauses = judged.clauses();
         if let Some(step) = any_step(random, &clauses) {
-            let record = Call::Run(encode(step).to_vec());
-            answer(library, &mut buffers, &record);
+            run(&mut judged, step);
         }
     }
     for _ in 0..5 {
-        let clauses = clauses(library, &mut buffers);
+        let clauses = judged.clauses();
         for step in short_steps(&clauses).into_iter().take(120) {
-            let record = Call::Run(encode(step).to_vec());
-            answer(library, &mut buffers, &record);
+            run(&mut judged, step);
         }
     }
-    answer(library, &mut buffers, &Call::Run(Vec::new())) & 0xFFFF == 1
+    judged.run(&[]);
+    for list in [tried, accepted] {
+        judged.loads(text);
+        judged.run(&list);
+    }
+    judged.refuted
 }
 
-/// True formulas with such steps; how many there were. Panics where one is
-/// refuted.
+/// True formulas with such steps; how many there were. Panics where a run on one
+/// answers refuted.
 pub fn tried_at_random(library: &mut impl Library) -> usize {
     let mut tried = 0;
     for index in 0..5_000 {
@@ -215,16 +271,21 @@ pub fn tried_at_random(library: &mut impl Library) -> usize {
     tried
 }
 
-/// Whether a library, over buffers of the stated sizes, refutes the text: the
-/// steps one by one, then a run of no record.
-pub fn refutes(library: &mut impl Library, text: &[u8], records: &[u8]) -> bool {
-    let mut buffers = Buffers::zero();
-    let mut called = |call: Call| answer(library, &mut buffers, &call) & 0xFFFF;
-    if called(Call::Load(text.to_vec())) != 1 {
-        return false;
+/// What a library answers: the steps one by one, then a run of no record; then
+/// the text loaded again, and the steps as one list.
+pub fn refutes(library: &mut impl Library, text: &[u8], records: &[u8]) -> Refuted {
+    let mut judged = Judged::new(library);
+    if !judged.loads(text) {
+        return Refuted::default();
     }
     for record in records.chunks(16) {
-        called(Call::Run(record.to_vec()));
+        judged.run(record);
     }
-    called(Call::Run(Vec::new())) == 1
+    let one_by_one = judged.run(&[]) == 1;
+    judged.loads(text);
+    let as_one_list = judged.run(records) == 1;
+    Refuted {
+        ever: judged.refuted,
+        at_the_end: one_by_one && as_one_list,
+    }
 }

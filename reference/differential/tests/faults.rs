@@ -10,7 +10,7 @@ use differential::scenario::Scenario;
 enum Fault {
     /// A load or a run writes the byte behind what is stated of buffer i.
     WritesBehind(usize),
-    /// A refused run clears the last byte that it should keep.
+    /// A refused run clears the first kind.
     ChangesAfterRefusal,
     /// A load that answers 1 keeps the state.
     KeepsState,
