@@ -22,23 +22,23 @@ int main(int argc, char **argv) {
     kefthrun::Checker checker;
 
     const kefthrun::Result loaded = checker.load(text.data(), text.size());
-    if (loaded.outcome != KEFTHRUN_LOAD_ACCEPTED) {
+    if (loaded.tag != KEFTHRUN_LOAD_ACCEPTED) {
         std::printf("formula %u %u\n", loaded.first, loaded.second);
         return 0;
     }
     const kefthrun::Result ran = checker.run(records.data(), records.size());
-    if (ran.outcome == KEFTHRUN_RUN_REFUTED) std::printf("refuted %u %u\n", ran.first, ran.second);
-    if (ran.outcome == KEFTHRUN_RUN_OPEN) std::printf("open %u\n", ran.first);
-    if (ran.outcome == KEFTHRUN_RUN_BAD) std::printf("bad %u %u\n", ran.first, ran.second);
+    if (ran.tag == KEFTHRUN_RUN_REFUTED) std::printf("refuted %u %u\n", ran.first, ran.second);
+    if (ran.tag == KEFTHRUN_RUN_OPEN) std::printf("open %u\n", ran.first);
+    if (ran.tag == KEFTHRUN_RUN_BAD) std::printf("bad %u %u\n", ran.first, ran.second);
 
-    for (uint32_t c = 1; checker.clause(c).outcome == KEFTHRUN_ANSWERED; c++) {
+    for (uint32_t c = 1; checker.clause(c).tag == KEFTHRUN_ANSWERED; c++) {
         std::printf("clause %u:", c);
         for (int literal : checker.literals(c)) std::printf(" %d", literal);
         std::printf("\n");
     }
     for (uint32_t v = 1;; v++) {
         const kefthrun::Result variable = checker.variable(v);
-        if (variable.outcome != KEFTHRUN_ANSWERED) break;
+        if (variable.tag != KEFTHRUN_ANSWERED) break;
         std::printf("variable %u: kind %u, universals %u\n", v, variable.first, variable.second);
     }
     return 0;

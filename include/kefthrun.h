@@ -114,10 +114,10 @@ static inline int kefthrun_literal(const uint8_t *literals, size_t entry) {
 
 namespace kefthrun {
 
-/* A result, taken apart: the outcome is its case. */
+/* A result, taken apart: the tag is its case. */
 struct Result {
-    unsigned outcome, first, second;
-    explicit Result(uint64_t r) : outcome(kefthrun_case(r)), first(kefthrun_first(r)), second(kefthrun_second(r)) {}
+    unsigned tag, first, second;
+    explicit Result(uint64_t r) : tag(kefthrun_case(r)), first(kefthrun_first(r)), second(kefthrun_second(r)) {}
 };
 
 /* One formula with its steps: owns the five buffers. */

@@ -94,7 +94,7 @@ static std::vector<uint8_t> listing() {
     return all;
 }
 
-static uint64_t packed(uint64_t outcome, uint64_t a, uint64_t b) { return outcome + (a << 16) + (b << 32); }
+static uint64_t packed(uint64_t tag, uint64_t a, uint64_t b) { return tag + (a << 16) + (b << 32); }
 
 static void whole() {
     Buffers b;
@@ -153,8 +153,8 @@ static void longer(int which) {
     expect("guards", b.guards_stand());
 }
 
-static bool is(const kefthrun::Result &r, unsigned outcome, unsigned first, unsigned second) {
-    return r.outcome == outcome && r.first == first && r.second == second;
+static bool is(const kefthrun::Result &r, unsigned tag, unsigned first, unsigned second) {
+    return r.tag == tag && r.first == first && r.second == second;
 }
 
 // The class: a cleared result is no case, and a null pointer is no bytes.
@@ -162,7 +162,7 @@ static void class_in_cpp() {
     const kefthrun::Result cleared(0);
     for (unsigned some : {KEFTHRUN_LOAD_ACCEPTED + 0u, KEFTHRUN_LOAD_REFUSED + 0u, KEFTHRUN_RUN_REFUTED + 0u, KEFTHRUN_RUN_OPEN + 0u, KEFTHRUN_RUN_BAD + 0u,
                           KEFTHRUN_ANSWERED + 0u, KEFTHRUN_REFUSED + 0u})
-        expect("0 is no case", cleared.outcome != some);
+        expect("0 is no case", cleared.tag != some);
     kefthrun::Checker checker;
     const std::vector<uint8_t> none;
     expect("no text", is(checker.load(none.data(), none.size()), KEFTHRUN_LOAD_REFUSED, 1, KEFTHRUN_NO_FORM));
