@@ -2,30 +2,20 @@
 use mathlib.Core.Path.{_≡_, refl, sym, _∙_, ap}
 use mathlib.Core.Bool.{Bool, true, false, not, cond}
 use mathlib.Core.List.{List}
-use Prim.Native.Nat.{ℕ, _-_, _≤_}
-use native.Mathlib.Omega.{arith}
-use borrow.Author.Tests.{le-leb}
+use Prim.Native.Nat.{ℕ, _-_}
 use lib.Dec.{leb}
 use lib.IntN.{ℤ}
-use lib.ListN.{length, replicate, drop-of-length-le}
+use lib.ListN.{length, replicate}
 use Rattle.dqbf.specs.Limits.{clauseLimit, literalLimit, variableLimit}
 use Rattle.dqbf.specs.Questions.{ClauseAnswer, VariableAnswer}
 use Rattle.tables.specs.Tables.{Tables, tablesOf, entry}
-use Rattle.tables.specs.Spread.{spread}
-use Rattle.tables.specs.WellFormed.{every, long}
 use Rattle.tables.specs.declared.State.{State}
-use Rattle.tables.specs.Spread as Spread
 use Rattle.questions.specs.Answers.{lengthAnswer, variableAnswer}
-use Rattle.dqdimacs.specs.Loading.{AfterLoad, loadedOn, loadOf}
-use Rattle.dqdimacs.specs.declared.Loaded.{Loaded}
-use Rattle.steps.specs.Steps.{AfterRun, runOf}
-use Rattle.steps.specs.declared.Ran.{Ran}
-use Rattle.codec.specs.Bytes.{entries, bytesOf, literalsIn, literalBytes, over}
-use Rattle.codec.specs.State.{stateBytes}
+use Rattle.dqdimacs.specs.Loading.{loadOf}
+use Rattle.steps.specs.Steps.{runOf}
+use Rattle.codec.specs.Bytes.{entries, literalsIn, over}
 use Rattle.codec.specs.State as Codec
-use Rattle.codec.proofs.Laws.Bytes.{entries-length}
-use Rattle.codec.proofs.Laws.Turns.{literals-length}
-use Rattle.buffers.specs.Buffers.{Buffers, buffersOf, stateWhole, whole, tablesIn, stateIn, written}
+use Rattle.buffers.specs.Buffers.{Buffers, buffersOf, stateWhole, whole, tablesIn, stateIn}
 use Rattle.results.specs.Results.{packed, loadResult, runResult, clauseResult, showResult, stretchResult, variableResult}
 use Rattle.buffers.proofs.Laws.{Sizes, whole-sizes}
 use Rattle.results.proofs.Laws.{stretch-shown}
@@ -54,17 +44,6 @@ module _ (b : Buffers) (records : List ℕ) {a : Bool} (told : a ≡ whole b) wh
   unfolding runBytes
   run-on h e = e ∙ rw (← told, not-false a h)
 
--- what a run over decoded tables leaves
-module _ (b : Buffers) (records : List ℕ) where
-  pub run-told : {l : List ℤ} {e w : List ℕ} {s : State} → l ≡ literalsIn literalLimit (b .literals) → e ≡ entries 2 clauseLimit (b .ends) → w ≡ entries 8 variableLimit (b .sets)
-      → s ≡ Codec.stateIn (b .state) → (t : Tables) (r : Ran)
-      → _≡_ {A = AfterRun} (record { tables = t; state = r .state; answer = r .answer }) (runOf (tablesOf l e w (b .kinds)) s records)
-      → {literals ends sets state : List ℕ} → literals ≡ over (literalBytes (t .literals)) (b .literals) → ends ≡ over (bytesOf 2 (t .ends)) (b .ends)
-      → sets ≡ over (bytesOf 8 (t .sets)) (b .sets) → state ≡ over (stateBytes (r .state)) (b .state) → {n : ℕ} → n ≡ runResult (r .answer)
-      → _≡_ {A = After} (record { buffers = buffersOf literals ends sets (t .kinds) state; result = n }) (ran b (runOf (tablesIn b) (stateIn b) records))
-  unfolding tablesIn stateIn ran written
-  run-told p q u v t r told lw ew sw tw nw = rw (lw, ew, sw, tw, nw) (ap (ran b) (rw (p, q, u, v) at told))
-
 -- ---- a load
 
 module _ (b : Buffers) (text : List ℕ) {a : Bool} (told : a ≡ whole b) where
@@ -76,39 +55,6 @@ module _ (b : Buffers) (text : List ℕ) {a : Bool} (told : a ≡ whole b) where
   pub load-on : not a ≡ false → {x : After} → x ≡ loaded b (loadOf (tablesIn b) text) → x ≡ loadBytes b text
   unfolding loadBytes
   load-on h e = e ∙ rw (← told, not-false a h)
-
--- a load reads no entry: of tables of the stated sizes only the kinds' entries past their size count
-load-unread : (kinds text : List ℕ) → 512 ≤ length kinds → (l l′ : List ℤ) (e e′ w w′ : List ℕ) → length l ≡ 8192 → length l′ ≡ 8192 → length e ≡ 2048 → length e′ ≡ 2048
-    → length w ≡ 512 → length w′ ≡ 512 → loadOf (tablesOf l e w kinds) text ≡ loadOf (tablesOf l′ e′ w′ kinds) text
-unfolding loadOf loadedOn spread Spread.over long every
-load-unread kinds text k l l′ e e′ w w′ p p′ q q′ r r′ =
-    rw (
-      p,
-      p′,
-      q,
-      q′,
-      r,
-      r′,
-      le-leb 512 (length kinds) k,
-      drop-of-length-le l {i = 8192} (omega arith),
-      drop-of-length-le l′ {i = 8192} (omega arith),
-      drop-of-length-le e {i = 2048} (omega arith),
-      drop-of-length-le e′ {i = 2048} (omega arith),
-      drop-of-length-le w {i = 512} (omega arith),
-      drop-of-length-le w′ {i = 512} (omega arith),
-    )
-
-module _ (b : Buffers) (text : List ℕ) (kinds-room : 512 ≤ length (b .kinds)) where
-  pub load-told : (l : List ℤ) (e w : List ℕ) → length l ≡ 8192 → length e ≡ 2048 → length w ≡ 512 → (t : Tables) (r : Loaded)
-      → _≡_ {A = AfterLoad} (record { tables = t; state = r .state; answer = r .answer }) (loadOf (tablesOf l e w (b .kinds)) text)
-      → {literals ends sets state : List ℕ} → literals ≡ over (literalBytes (t .literals)) (b .literals) → ends ≡ over (bytesOf 2 (t .ends)) (b .ends)
-      → sets ≡ over (bytesOf 8 (t .sets)) (b .sets) → state ≡ over (stateBytes (r .state)) (b .state) → {n : ℕ} → n ≡ loadResult (r .answer)
-      → _≡_ {A = After} (record { buffers = buffersOf literals ends sets (t .kinds) state; result = n }) (loaded b (loadOf (tablesIn b) text))
-  unfolding tablesIn loaded written
-  load-told l e w p q u t r told lw ew sw tw nw =
-      let same = load-unread (b .kinds) text kinds-room l (literalsIn literalLimit (b .literals)) e (entries 2 clauseLimit (b .ends)) w (entries 8 variableLimit (b .sets))
-      p (literals-length literalLimit (b .literals)) q (entries-length 2 clauseLimit (b .ends)) u (entries-length 8 variableLimit (b .sets)) in
-      rw (lw, ew, sw, tw, nw) (ap (loaded b) (told ∙ same))
 
 -- ---- calls that write nothing
 

@@ -1,11 +1,11 @@
--- `driver::run::run_whole` meets its contract.
+-- `whole_calls::run::run_whole` meets its contract.
 use borrow.Author.Needs.{needs}
 use native.Mathlib.Omega.{arith}
 use Rattle.tables.specs.Tables.{tablesOf}
 use Rattle.buffers.specs.Buffers.{buffersOf}
-use Rattle.driver.proofs.Laws.Outcomes.{run-told}
-use Rattle.driver.proofs.run.run_whole.Statement.{statement}
-use Rattle.driver.proofs.run.run_whole.Tie as tie
+use Rattle.whole_calls.proofs.Laws.Told.{run-told}
+use Rattle.whole_calls.proofs.run.run_whole.Statement.{statement}
+use Rattle.whole_calls.proofs.run.run_whole.Tie as tie
 
 slice-aggregate-read-tables : tie.Need-slice-aggregate-read-tables
 slice-aggregate-read-tables c = search needs

@@ -1,12 +1,12 @@
--- `driver::load::load_whole` meets its contract.
+-- `whole_calls::load::load_whole` meets its contract.
 use borrow.Author.Needs.{needs}
 use Rattle.buffers.specs.Buffers.{buffersOf}
 use native.Mathlib.Omega.{arith}
 use mathlib.Core.Path.{refl}
 use Rattle.tables.specs.Tables.{tablesOf}
-use Rattle.driver.proofs.Laws.Outcomes.{load-told}
-use Rattle.driver.proofs.load.load_whole.Statement.{statement}
-use Rattle.driver.proofs.load.load_whole.Tie as tie
+use Rattle.whole_calls.proofs.Laws.Told.{load-told}
+use Rattle.whole_calls.proofs.load.load_whole.Statement.{statement}
+use Rattle.whole_calls.proofs.load.load_whole.Tie as tie
 
 slice-aggregate-load : tie.Need-slice-aggregate-load
 slice-aggregate-load c = search needs

@@ -1,0 +1,71 @@
+-- What a load and a run over decoded tables leave in the buffers.
+-- Offers `run-told`, `load-told`.
+use mathlib.Core.Path.{_≡_, _∙_, ap}
+use mathlib.Core.List.{List}
+use Prim.Native.Nat.{ℕ, _≤_}
+use native.Mathlib.Omega.{arith}
+use borrow.Author.Tests.{le-leb}
+use lib.IntN.{ℤ}
+use lib.ListN.{length, drop-of-length-le}
+use Rattle.dqbf.specs.Limits.{clauseLimit, literalLimit, variableLimit}
+use Rattle.tables.specs.Tables.{Tables, tablesOf}
+use Rattle.tables.specs.Spread.{spread}
+use Rattle.tables.specs.WellFormed.{every, long}
+use Rattle.tables.specs.declared.State.{State}
+use Rattle.tables.specs.Spread as Spread
+use Rattle.dqdimacs.specs.Loading.{AfterLoad, loadedOn, loadOf}
+use Rattle.dqdimacs.specs.declared.Loaded.{Loaded}
+use Rattle.steps.specs.Steps.{AfterRun, runOf}
+use Rattle.steps.specs.declared.Ran.{Ran}
+use Rattle.codec.specs.Bytes.{entries, bytesOf, literalsIn, literalBytes, over}
+use Rattle.codec.specs.State.{stateBytes}
+use Rattle.codec.specs.State as Codec
+use Rattle.codec.proofs.Laws.Bytes.{entries-length}
+use Rattle.codec.proofs.Laws.Turns.{literals-length}
+use Rattle.buffers.specs.Buffers.{Buffers, buffersOf, tablesIn, stateIn, written}
+use Rattle.results.specs.Results.{loadResult, runResult}
+use Rattle.exports.specs.Calls.{After, loaded, ran}
+
+-- what a run over decoded tables leaves
+module _ (b : Buffers) (records : List ℕ) where
+  pub run-told : {l : List ℤ} {e w : List ℕ} {s : State} → l ≡ literalsIn literalLimit (b .literals) → e ≡ entries 2 clauseLimit (b .ends) → w ≡ entries 8 variableLimit (b .sets)
+      → s ≡ Codec.stateIn (b .state) → (t : Tables) (r : Ran)
+      → _≡_ {A = AfterRun} (record { tables = t; state = r .state; answer = r .answer }) (runOf (tablesOf l e w (b .kinds)) s records)
+      → {literals ends sets state : List ℕ} → literals ≡ over (literalBytes (t .literals)) (b .literals) → ends ≡ over (bytesOf 2 (t .ends)) (b .ends)
+      → sets ≡ over (bytesOf 8 (t .sets)) (b .sets) → state ≡ over (stateBytes (r .state)) (b .state) → {n : ℕ} → n ≡ runResult (r .answer)
+      → _≡_ {A = After} (record { buffers = buffersOf literals ends sets (t .kinds) state; result = n }) (ran b (runOf (tablesIn b) (stateIn b) records))
+  unfolding tablesIn stateIn ran written
+  run-told p q u v t r told lw ew sw tw nw = rw (lw, ew, sw, tw, nw) (ap (ran b) (rw (p, q, u, v) at told))
+
+-- a load reads no entry: of tables of the stated sizes only the kinds' entries past their size count
+load-unread : (kinds text : List ℕ) → 512 ≤ length kinds → (l l′ : List ℤ) (e e′ w w′ : List ℕ) → length l ≡ 8192 → length l′ ≡ 8192 → length e ≡ 2048 → length e′ ≡ 2048
+    → length w ≡ 512 → length w′ ≡ 512 → loadOf (tablesOf l e w kinds) text ≡ loadOf (tablesOf l′ e′ w′ kinds) text
+unfolding loadOf loadedOn spread Spread.over long every
+load-unread kinds text k l l′ e e′ w w′ p p′ q q′ r r′ =
+    rw (
+      p,
+      p′,
+      q,
+      q′,
+      r,
+      r′,
+      le-leb 512 (length kinds) k,
+      drop-of-length-le l {i = 8192} (omega arith),
+      drop-of-length-le l′ {i = 8192} (omega arith),
+      drop-of-length-le e {i = 2048} (omega arith),
+      drop-of-length-le e′ {i = 2048} (omega arith),
+      drop-of-length-le w {i = 512} (omega arith),
+      drop-of-length-le w′ {i = 512} (omega arith),
+    )
+
+module _ (b : Buffers) (text : List ℕ) (kinds-room : 512 ≤ length (b .kinds)) where
+  pub load-told : (l : List ℤ) (e w : List ℕ) → length l ≡ 8192 → length e ≡ 2048 → length w ≡ 512 → (t : Tables) (r : Loaded)
+      → _≡_ {A = AfterLoad} (record { tables = t; state = r .state; answer = r .answer }) (loadOf (tablesOf l e w (b .kinds)) text)
+      → {literals ends sets state : List ℕ} → literals ≡ over (literalBytes (t .literals)) (b .literals) → ends ≡ over (bytesOf 2 (t .ends)) (b .ends)
+      → sets ≡ over (bytesOf 8 (t .sets)) (b .sets) → state ≡ over (stateBytes (r .state)) (b .state) → {n : ℕ} → n ≡ loadResult (r .answer)
+      → _≡_ {A = After} (record { buffers = buffersOf literals ends sets (t .kinds) state; result = n }) (loaded b (loadOf (tablesIn b) text))
+  unfolding tablesIn loaded written
+  load-told l e w p q u t r told lw ew sw tw nw =
+      let same = load-unread (b .kinds) text kinds-room l (literalsIn literalLimit (b .literals)) e (entries 2 clauseLimit (b .ends)) w (entries 8 variableLimit (b .sets))
+      p (literals-length literalLimit (b .literals)) q (entries-length 2 clauseLimit (b .ends)) u (entries-length 8 variableLimit (b .sets)) in
+      rw (lw, ew, sw, tw, nw) (ap (loaded b) (told ∙ same))
