@@ -1,26 +1,13 @@
--- What the public functions answer for a line: its form (the calculus' `formOf`) as a shape with a count, and its numbers.
--- Offers `lineLength`, `shapeOf`, `numbersOf`, `Formed`.
+-- What `form` answers for a line: its form (the calculus' `formOf`) as a shape with a count, and its numbers.
+-- Offers `shapeOf`, `numbersOf`, `Formed`.
 use mathlib.Core.Path.{_≡_}
 use mathlib.Core.List.{List, [], _∷_, map}
 use Prim.Native.Nat.{ℕ}
 use lib.ListN.{length, take}
 use Rattle.dqbf.specs.Literal.{rank}
-use Rattle.dqbf.specs.Text.{lineFeed, pieces}
 use Rattle.dqbf.specs.Reading.{Form, comment, header, aLine, eLine, dLine, clauseLine, noForm}
 use Rattle.forms.specs.declared.form.Shape.{Shape}
 use Rattle.forms.specs.declared.form.Shape.the-variants.{Comment, Header, Universals, Existentials, Dependent, Clause, Malformed}
-
--- ---- lines
-
-unfoldable pub firstOf : List (List ℕ) → List ℕ
-firstOf [] = []
-firstOf (w ∷ ws) = w
-
--- the length of the first line of a text
-unfoldable pub lineLength : List ℕ → ℕ
-lineLength text = length (firstOf (pieces lineFeed text))
-
--- ---- forms
 
 unfoldable pub shapeOf : Form → Shape
 shapeOf comment = Comment

@@ -1,13 +1,18 @@
 // The form of a line.
+use numerals::list;
+use numerals::list::Gathering;
+use numerals::number;
+use tokens::text;
 ghost use mathlib.Core.Path.{_≡_};
 ghost use mathlib.Core.Option.{some};
 ghost use Prim.Native.Nat.{_≤_, _<_, _*_};
-ghost use lib.ListN.{length, drop, getD};
+ghost use lib.ListN.{length, getD};
 ghost use Rattle.dqbf.specs.Bytes.{bytes, sameBytes};
 ghost use Rattle.dqbf.specs.Text.{space, closed, literalOf, variableOf};
 ghost use Rattle.dqbf.specs.Reading.{headerForm, clauseForm, tokensForm, formOf};
+ghost use Rattle.tokens.specs.Working.{wordsOf, after};
 ghost use Rattle.forms.specs.Shapes.{shapeOf, Formed};
-ghost use Rattle.forms.specs.Working.{keyword, wordsOf, after, entryOf, minusOf, digitOf, ranked, headerShape, Leading, Gathered, Listing};
+ghost use Rattle.forms.specs.Working.{keyword, headerShape, Listing};
 
 // The form of a line; a list of numbers with how many it has.
 pub enum Shape {
@@ -18,116 +23,6 @@ pub enum Shape {
     Dependent(usize),
     Clause(usize),
     Malformed,
-}
-
-// What stands before a closing 0: how many numbers, or that the tokens have no such form.
-pub enum Gathering {
-    Count(usize),
-    Open,
-}
-
-// A number of a list, and the place behind the space that follows it; the number 0 where none stands.
-pub struct Listed {
-    pub number: u32,
-    pub next: usize,
-}
-
-// 1 where a byte is the minus of a literal.
-fn minus_of(signed: bool, b: u8) -> u32
-    ensures { λ r. ⌜ r ≡ minusOf signed b ⌝ }
-{
-    if signed & (b == 45) {
-        return 1;
-    }
-    0
-}
-
-// The digit at i; 0 also where none is there.
-fn digit_at(line: &[u8], i: usize) -> u32
-    ensures { λ r. ⌜ r ≡ digitOf (drop i (now (line .entry))) ⌝ }
-{
-    if line.len() <= i {
-        return 0;
-    }
-    let b = line[i];
-    if crate::number::is_digit(b) {
-        return crate::number::wide(b - 48);
-    }
-    0
-}
-
-// The variable, or where signs may stand the rank of the literal; `minus` is 1 behind a minus.
-fn entry(signed: bool, value: u32, minus: u32) -> u32
-    requires { ⌜ (value < 100000) × (minus ≤ 1) ⌝ }
-    ensures { λ r. ⌜ r ≡ ranked signed value minus ⌝ }
-{
-    if signed {
-        return 2 * value + minus;
-    }
-    value
-}
-
-// The number of a list that stands at a place. Whether a minus leads it is no branch: the processor could not guess its outcome.
-fn number_at(line: &[u8], at: usize, signed: bool) -> Listed
-    requires { ⌜ at < length (now line) ⌝ }
-    ensures { λ r. ⌜ Leading signed (now (line .entry)) at r ⌝ }
-{
-    let missing = Listed {
-        number: 0,
-        next: at,
-    };
-    let minus = minus_of(signed, line[at]);
-    let first = at + minus as usize;
-    let mut value = digit_at(line, first);
-    if value == 0 {
-        return missing;
-    }
-    let mut i = first + 1;
-    while i < line.len() {
-        let b = line[i];
-        i += 1;
-        if b == 32 {
-            let number = entry(signed, value, minus);
-            return Listed { number, next: i };
-        }
-        if crate::number::is_digit(b) {
-            value = value * 10 + crate::number::wide(b - 48);
-        } else {
-            return missing;
-        }
-        if value >= 100000 {
-            return missing;
-        }
-    }
-    missing
-}
-
-// The variables, or where signs may stand the ranks of the literals, that a line lists from i on before its closing 0.
-fn gather(line: &[u8], i: usize, signed: bool, numbers: &mut [u32]) -> Gathering
-    requires { ⌜ (i ≤ length (now line)) × (length (now line) ≤ 2 * length (now numbers)) ⌝ }
-    ensures { λ r. ⌜ Gathered (closed (entryOf signed) (wordsOf (drop i (now (line .entry))))) r (now (numbers .exit)) ⌝ }
-{
-    let mut at = i;
-    let mut n = 0;
-    while at < line.len() {
-        let t = number_at(line, at, signed);
-        let x = t.number;
-        if x != 0 {
-            numbers[n] = x;
-            n += 1;
-            at = t.next;
-        } else if line[at] == 32 {
-            at += 1;
-        } else {
-            if line[at] == 48 {
-                if at + 1 == line.len() {
-                    return Gathering::Count(n);
-                }
-            }
-            return Gathering::Open;
-        }
-    }
-    Gathering::Open
 }
 
 // The first byte of a line that no space leads, if its first token is one byte long; 0 otherwise.
@@ -167,27 +62,27 @@ fn header_form(line: &[u8], i: usize) -> Shape
     if i == line.len() {
         return Shape::Malformed;
     }
-    let t = crate::text::next_token(line, i + 1);
+    let t = text::next_token(line, i + 1);
     let f = t.from;
     let e = t.to;
     if e == line.len() {
         return Shape::Malformed;
     }
     let cnf = is_cnf(&line[f..e]);
-    let t2 = crate::text::next_token(line, e + 1);
+    let t2 = text::next_token(line, e + 1);
     let f2 = t2.from;
     let e2 = t2.to;
     if e2 == line.len() {
         return Shape::Malformed;
     }
-    let v = crate::number::number(&line[f2..e2]);
-    let t3 = crate::text::next_token(line, e2 + 1);
+    let v = number::number(&line[f2..e2]);
+    let t3 = text::next_token(line, e2 + 1);
     let f3 = t3.from;
     let e3 = t3.to;
     if e3 != line.len() {
         return Shape::Malformed;
     }
-    let c = crate::number::number(&line[f3..e3]);
+    let c = number::number(&line[f3..e3]);
     header_shape(cnf, v, c)
 }
 
@@ -215,7 +110,7 @@ fn variables(line: &[u8], i: usize, numbers: &mut [u32]) -> usize
     if i == line.len() {
         return 0;
     }
-    let a = gather(line, i + 1, false, numbers);
+    let a = list::gather(line, i + 1, false, numbers);
     let Gathering::Count(n) = a else {
         return 0;
     };
@@ -227,7 +122,7 @@ fn clause_form(line: &[u8], numbers: &mut [u32]) -> Shape
     requires { ⌜ length (now line) ≤ 2 * length (now numbers) ⌝ }
     ensures { λ r. ⌜ Formed (clauseForm (closed literalOf (wordsOf (now (line .entry))))) r (now (numbers .exit)) ⌝ }
 {
-    let a = gather(line, 0, true, numbers);
+    let a = list::gather(line, 0, true, numbers);
     let Gathering::Count(n) = a else {
         return Shape::Malformed;
     };

@@ -1,4 +1,2 @@
-// A line of formula text and its form (document 01, "Formula text"): lines, tokens, numbers, forms.
+// The form of a line of formula text (document 01, "Formula text").
 pub mod form;
-pub mod number;
-pub mod text;

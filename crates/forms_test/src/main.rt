@@ -107,7 +107,7 @@ fn write_lines(text: &[u8], numbers: &mut [u32])
 {
     let mut at = 0;
     while at < text.len() {
-        let end = at + forms::text::line_length(&text[at..]);
+        let end = at + tokens::text::line_length(&text[at..]);
         if end == text.len() {
             io::write_all(1, b"no line feed\n");
             return;

@@ -12,10 +12,10 @@ ghost use Rattle.tables.specs.WellFormed.{long};
 ghost use Rattle.prefix_lines.specs.Lines.{ReadSoFar};
 ghost use Rattle.texts.specs.Texts.{startProgress, TextRead};
 use super::lines;
-use forms::text;
 use prefix_lines::progress;
 use prefix_lines::progress::Progress;
 use prefix_lines::refusal;
+use tokens::text;
 
 // What a text came to: its number of refusal, 0 where it is accepted, with the line.
 pub struct TextAnswer {

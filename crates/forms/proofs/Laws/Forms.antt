@@ -13,16 +13,19 @@ use Rattle.dqbf.specs.Bytes.{bytes, sameBytes}
 use Rattle.dqbf.specs.Literal.{Clause, rank}
 use Rattle.dqbf.specs.Text.{space, onto, pieces, isEmpty, numberOf, variableOf, literalOf, closed}
 use Rattle.dqbf.specs.Reading.{Form, aLine, eLine, dLine, noForm, headerOf, headerForm, prefixForm, clauseForm, tokensForm, formOf}
+use Rattle.tokens.specs.Working.{isNil, words, wordsOf, after, Cut}
+use Rattle.tokens.specs.declared.text.Token.{Token}
+use Rattle.tokens.proofs.Laws.Pieces.{pieces-some, words-some, after-none, after-some}
+use Rattle.numerals.specs.Working.{plusOne, each, entryOf, entries, countOf, Gathered}
+use Rattle.numerals.specs.declared.list.Gathering.{Gathering}
+use Rattle.numerals.specs.declared.list.Gathering.the-variants.{Count, Open}
+use Rattle.numerals.proofs.Laws.Official.{closed-variables, closed-ranks}
 use Rattle.forms.specs.Shapes.{shapeOf, numbersOf, Formed}
-use Rattle.forms.specs.Working.{isNil, words, wordsOf, after, keyword, plusOne, each, entryOf, entries, countOf, headerShape, Cut, Gathered, Listing}
-use Rattle.forms.specs.declared.text.Token.{Token}
-use Rattle.forms.specs.declared.form.Gathering.{Gathering}
-use Rattle.forms.specs.declared.form.Gathering.the-variants.{Count, Open}
+use Rattle.forms.specs.Working.{keyword, headerShape, Listing}
 use Rattle.forms.specs.declared.form.Shape.{Shape}
 use Rattle.forms.specs.declared.form.Shape.the-variants.{Comment, Header, Universals, Existentials, Dependent, Malformed}
 use Rattle.forms.specs.declared.form.Shape.the-variants as shape
-use Rattle.forms.proofs.Laws.Pieces.{pieces-some, words-some, after-none, after-some}
-use Rattle.forms.proofs.Laws.Official.{form-empty, form-comment, form-space, form-words, closed-variables, closed-ranks}
+use Rattle.forms.proofs.Laws.Official.{form-empty, form-comment, form-space, form-words}
 
 and-false : (t : Bool) → (t && false) ≡ false
 and-false true = refl

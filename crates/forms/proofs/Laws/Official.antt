@@ -1,19 +1,16 @@
--- The working definitions (specs/Working.antt) are the calculus': the form by words is the form by tokens (`form-words`),
--- a list of entries is the list of variables (`closed-variables`) or has the ranks of the literals (`closed-ranks`).
+-- The words of `tokens` are the calculus' tokens where a form is asked for: the form by words is the form by tokens (`form-words`).
 use mathlib.Core.Path.{_≡_, refl, sym, ap}
 use mathlib.Core.Bool.{Bool, true, false, cond, true≢false}
-use mathlib.Core.List.{List, [], _∷_, map}
+use mathlib.Core.List.{List, [], _∷_}
 use mathlib.Core.Option.{Option, none, some}
 use Prim.Native.Nat.{ℕ}
 use native.Mathlib.Nat.{suc-ne-zero}
-use lib.IntN.{ℤ}
 use lib.ListN.{length, getD}
 use borrow.Author.Tests.{eq-eqb, ne-eqb}
 use Rattle.dqbf.specs.Bytes.{bytes, sameBytes}
-use Rattle.dqbf.specs.Literal.{Clause, rank}
 use Rattle.dqbf.specs.Text.{space, onto, pieces, isEmpty, nonEmpty, lastOf, parted, tokens, numberOf, variableOf, literalOf, isZero, prepend, closed}
 use Rattle.dqbf.specs.Reading.{comment, noForm, headerOf, headerForm, prefixForm, clauseForm, tokensForm, isComment, formOf}
-use Rattle.forms.specs.Working.{isNil, words, wordsOf, each, entryOf, rankOf}
+use Rattle.tokens.specs.Working.{isNil, words, wordsOf}
 
 -- ---- an empty token at the end has no form
 
@@ -115,37 +112,3 @@ form-words (b ∷ bs) n k h = rw (ne-eqb b 99 k, ne-eqb b space h) (go (pieces s
     go : (ps : List (List ℕ)) → tokensForm (parted (onto b ps)) ≡ tokensForm (some (words (onto b ps)))
     go [] = words-form b [] []
     go (w ∷ ws) = words-form b w ws
-
--- ---- lists before the closing 0
-
-pub closed-none : {A : Type 0} (read : List ℕ → Option A) → none ≡ closed read []
-unfolding closed
-closed-none read = refl
-
-pub closed-last : {A : Type 0} (read : List ℕ → Option A) (w : List ℕ) → closed read (w ∷ []) ≡ cond (isZero w) (some []) none
-unfolding closed
-closed-last read w = refl
-
-pub closed-more : {A : Type 0} (read : List ℕ → Option A) (w : List ℕ) (ws : List (List ℕ)) → isNil ws ≡ false → closed read (w ∷ ws) ≡ prepend (read w) (closed read ws)
-unfolding closed isNil
-closed-more read w [] h = absurd (true≢false h)
-closed-more read w (v ∷ vs) h = refl
-
-pub closed-variables : (ws : List (List ℕ)) → closed (entryOf false) ws ≡ closed variableOf ws
-unfolding entryOf
-closed-variables ws = refl
-
-pub closed-ranks : (ws : List (List ℕ)) → closed (entryOf true) ws ≡ each (map rank) (closed literalOf ws)
-unfolding closed entryOf rankOf each prepend
-closed-ranks [] = refl
-closed-ranks (w ∷ []) = go (isZero w)
-  where
-    go : (t : Bool) → cond t (some []) none ≡ each (map rank) (cond t (some []) none)
-    go true = refl
-    go false = refl
-closed-ranks (w ∷ v ∷ vs) = rw (closed-ranks (v ∷ vs)) (go (literalOf w) (closed literalOf (v ∷ vs)))
-  where
-    go : (l : Option ℤ) (o : Option Clause) → prepend (each rank l) (each (map rank) o) ≡ each (map rank) (prepend l o)
-    go none o = refl
-    go (some l) none = refl
-    go (some l) (some C) = refl

@@ -3,7 +3,7 @@ use Prim.Native.Nat.{_+_, _-_, _≤_}
 use native.Mathlib.Omega.{arith}
 use borrow.Author.Needs.{needs}
 use lib.ListN.{length}
-use Rattle.forms.proofs.Laws.Pieces.{line-at-inside}
+use Rattle.tokens.proofs.Laws.Pieces.{line-at-inside}
 use Rattle.forms_test.proofs.Laws.{counted}
 use Rattle.dqbf.proofs.Laws.Parts.{part-length}
 use Rattle.forms_test.proofs.write_lines.Statement.{statement}
@@ -11,7 +11,7 @@ use Rattle.forms_test.proofs.write_lines.Tie as tie
 use Rattle.forms_test.proofs.write_lines.Reads as reads
 use Rattle.forms_test.proofs.write_lines.Lts as lts
 use Rattle.forms.proofs.form.form.Reads as form-reads
-use Rattle.forms.proofs.text.line_length.Reads as line-length-reads
+use Rattle.tokens.proofs.text.line_length.Reads as line-length-reads
 use Rattle.forms_test.proofs.write_shape.Reads as write-shape-reads
 use Rattle.io.proofs.write_all.Reads as write-all-reads
 

@@ -20,8 +20,8 @@ use Rattle.dqbf.specs.Model.{numbers, wordOf}
 use Rattle.dqbf.specs.Reading.{Form, formOf, Phase, opening, prefixLines, clauseLines, Reader, start, lineTests, taken, Loaded, accepted, refused, atEnd, unless, readFrom}
 use Rattle.dqbf.proofs.Reading.Lines.{start-sane}
 use Rattle.ranks.specs.Order.{allInserted}
-use Rattle.forms.specs.Shapes.{lineLength}
-use Rattle.forms.proofs.Laws.Pieces.{line-at-inside, line-at-last, line-at-more}
+use Rattle.tokens.specs.Lines.{lineLength}
+use Rattle.tokens.proofs.Laws.Pieces.{line-at-inside, line-at-last, line-at-more}
 use Rattle.tables.specs.Tables.{Tables}
 use Rattle.tables.specs.Spread.{spread, stateOf, blank}
 use Rattle.tables.specs.WellFormed.{long}

@@ -4,7 +4,7 @@ use Rattle.forms.proofs.form.clause_form.Statement.{statement}
 use Rattle.forms.proofs.form.clause_form.Tie as tie
 use Rattle.forms.proofs.form.clause_form.Reads as reads
 use Rattle.forms.proofs.form.clause_form.Lts as lts
-use Rattle.forms.proofs.form.gather.Reads as gather-reads
+use Rattle.numerals.proofs.list.gather.Reads as gather-reads
 
 gather-requires : tie.Need-gather-requires
 gather-requires c κs = search needs

@@ -7,8 +7,8 @@ use Rattle.forms.proofs.form.header_form.Reads as reads
 use Rattle.forms.proofs.form.header_form.Lts as lts
 use Rattle.forms.proofs.form.header_shape.Reads as header-shape-reads
 use Rattle.forms.proofs.form.is_cnf.Reads as is-cnf-reads
-use Rattle.forms.proofs.number.number.Reads as number-reads
-use Rattle.forms.proofs.text.next_token.Reads as next-token-reads
+use Rattle.numerals.proofs.number.number.Reads as number-reads
+use Rattle.tokens.proofs.text.next_token.Reads as next-token-reads
 
 returns : tie.Need-returns
 returns c = header-bare (c .before .before .args .line .now) (c .before .before .args .i) (c .if1 .taken)

@@ -5,7 +5,7 @@ use Rattle.forms.proofs.form.variables.Statement.{statement}
 use Rattle.forms.proofs.form.variables.Tie as tie
 use Rattle.forms.proofs.form.variables.Reads as reads
 use Rattle.forms.proofs.form.variables.Lts as lts
-use Rattle.forms.proofs.form.gather.Reads as gather-reads
+use Rattle.numerals.proofs.list.gather.Reads as gather-reads
 
 returns : tie.Need-returns
 returns c = variables-end (c .before .before .before .args .line .now) (c .before .before .before .args .i) _ (c .if1 .taken)

@@ -6,7 +6,7 @@ use lib.ListN.{length, length-take, length-drop}
 use Rattle.dqbf.specs.Text.{lineFeed, pieces}
 use Rattle.dqbf.specs.Reading.{start, readFrom}
 use Rattle.tables.specs.Tables.{tablesOf}
-use Rattle.forms.proofs.Laws.Pieces.{line-at-inside}
+use Rattle.tokens.proofs.Laws.Pieces.{line-at-inside}
 use Rattle.prefix_lines.proofs.Laws.Reading.{long-now}
 use Rattle.clause_lines.proofs.Laws.ClauseLines.{within}
 use Rattle.texts.proofs.Laws.Texts.{Reached, reached-start, reached-last, reached-refused, reached-next, reached-end}
@@ -17,7 +17,7 @@ use Rattle.texts.proofs.reading.read_lines.Lts as lts
 use Rattle.texts.proofs.reading.start_of_text.Reads as start-of-text-reads
 use Rattle.texts.proofs.lines.read_line.Reads as read-line-reads
 use Rattle.texts.proofs.reading.end_of_text.Reads as end-of-text-reads
-use Rattle.forms.proofs.text.line_length.Reads as line-length-reads
+use Rattle.tokens.proofs.text.line_length.Reads as line-length-reads
 
 abbrev Inv-loop : tie.InvT-loop
 Inv-loop text literals₀ ends₀ sets₀ kinds₀ numbers₀ known₀ progress₀ line₀ at₀ literals ends sets kinds numbers known progress line at = (at ≤ length text) × (line ≤ at) × (length literals ≡ length literals₀) × (length ends ≡ length ends₀) × (length sets ≡ length sets₀) × (length kinds ≡ length kinds₀) × (length numbers ≡ 16384) × (length known ≡ 65) × Reached (readFrom (pieces lineFeed text) 0 start) (tablesOf literals₀ ends₀ sets₀ kinds₀) text at line progress known (tablesOf literals ends sets kinds)
