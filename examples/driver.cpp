@@ -1,9 +1,11 @@
-// A driver in C++: driver FORMULA STEPS loads the formula, runs the steps, prints the verdict's line, then each clause and each variable.
+// A driver in C++: driver FORMULA STEPS loads the formula, runs the steps, prints the verdict's line, then each clause and each variable, then the formula as
+// tidy text.
 #include "../include/kefthrun.h"
 
 #include <cstdio>
 #include <fstream>
 #include <iterator>
+#include <string>
 #include <vector>
 
 // A file that cannot be read counts as empty.
@@ -41,5 +43,7 @@ int main(int argc, char **argv) {
         if (variable.tag != KEFTHRUN_ANSWERED) break;
         std::printf("variable %u: kind %u, universals %u\n", v, variable.first, variable.second);
     }
+    const std::string tidy = checker.text();
+    std::printf("text, %zu bytes:\n%s", tidy.size(), tidy.c_str());
     return 0;
 }

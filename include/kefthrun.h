@@ -2,16 +2,17 @@
  *
  * Buffers. Each table is its entries in little-endian bytes; the state is eight counts of 16 bits: the header's V, variables in use, universals, formula
  * clauses, clauses, literals, accepted steps, lowest empty clause (0: none). The driver owns every buffer and keeps it from call to call; a call keeps no
- * pointer to one. Bytes past the sizes below are never changed. Nothing needs to be cleared before a load.
+ * pointer to one. Bytes past the sizes below are never changed. Nothing needs to be cleared before a load. The output of a write is one more buffer of any
+ * length, of which only the text's bytes are changed.
  *
  * The driver's duties. The library is of this interface: kefthrun_interface() == KEFTHRUN_INTERFACE. A pointer is never null, also where its length is 0. No
  * two buffers of one call share a byte. Nothing else writes to a buffer while a call runs. The class kefthrun::Checker sees to the first three.
  *
  * Results. A result has four 16-bit fields, the lowest first: the case, which is never 0, two values, and 0. Too few bytes in a buffer is refusal 1; nothing
- * is changed then, except that a load zeroes a state of 16 bytes or more.
+ * is changed then, except that a load zeroes a state of 16 bytes or more. An output shorter than its text is refusal 30.
  *
- * Stack. No call uses the heap or recursion. A load was measured to use 91,632 bytes of stack, a run 25,808, a question or a shown clause 25,504
- * (docs/PERFORMANCE.md): give a thread at least 128 KB of stack. */
+ * Stack. No call uses the heap or recursion. A load was measured to use 91,856 bytes of stack, a run 26,032, a question or a shown clause 25,728, a write
+ * 26,072 (docs/PERFORMANCE.md): give a thread at least 128 KB of stack. */
 #ifndef KEFTHRUN_H
 #define KEFTHRUN_H
 
@@ -19,7 +20,7 @@
 #include <stdint.h>
 
 /* The number of this interface: one higher with each change of a function, a buffer's size or a result. */
-#define KEFTHRUN_INTERFACE 1u
+#define KEFTHRUN_INTERFACE 2u
 
 /* Sizes of the buffers, in bytes. */
 enum {
@@ -27,10 +28,11 @@ enum {
     KEFTHRUN_END_BYTES = 4096,      /* 2,048 clause ends of 16 bits */
     KEFTHRUN_SET_BYTES = 4096,      /* 512 dependency sets of 64 bits */
     KEFTHRUN_KIND_BYTES = 512,      /* 512 kinds */
-    KEFTHRUN_STATE_BYTES = 16
+    KEFTHRUN_STATE_BYTES = 16,
+    KEFTHRUN_TIDY_BYTES = 163840 /* an output of this many bytes is long enough for every formula */
 };
 
-/* The cases of a result: of a load, of a run, of a question or a shown clause. */
+/* The cases of a result: of a load, of a run, of a question, a shown clause or a write. */
 enum { KEFTHRUN_LOAD_ACCEPTED = 1, KEFTHRUN_LOAD_REFUSED = 4 };
 enum { KEFTHRUN_RUN_REFUTED = 1, KEFTHRUN_RUN_OPEN = 2, KEFTHRUN_RUN_BAD = 3 };
 enum { KEFTHRUN_ANSWERED = 1, KEFTHRUN_REFUSED = 2 };
@@ -38,7 +40,7 @@ enum { KEFTHRUN_ANSWERED = 1, KEFTHRUN_REFUSED = 2 };
 /* The kinds of variables. */
 enum { KEFTHRUN_KIND_UNDECLARED = 0, KEFTHRUN_KIND_UNIVERSAL = 1, KEFTHRUN_KIND_EXISTENTIAL = 2, KEFTHRUN_KIND_FORK = 3 };
 
-/* The numbers of refusal: of any call, of a formula, of a step or a list of steps (21 and 22 also of a question). */
+/* The numbers of refusal: of any call, of a formula, of a step or a list of steps (21 and 22 also of a question), of a write. */
 enum {
     KEFTHRUN_TABLE_TOO_SHORT = 1, /* a table is lent too short */
     KEFTHRUN_NOT_WELL_FORMED = 2, /* the tables are not well formed */
@@ -59,7 +61,9 @@ enum {
     KEFTHRUN_NOT_UNIVERSAL = 26,              /* the literal is not universal */
     KEFTHRUN_READ_BY_ANOTHER = 27,            /* another literal's set has the variable */
     KEFTHRUN_MASKS = 28,                      /* the masks do not make the clause */
-    KEFTHRUN_COMPARABLE = 29                  /* one part's set contains the other's */
+    KEFTHRUN_COMPARABLE = 29,                 /* one part's set contains the other's */
+
+    KEFTHRUN_OUTPUT_TOO_SHORT = 30 /* the output is lent shorter than the text */
 };
 
 #ifdef __cplusplus
@@ -91,6 +95,11 @@ uint64_t kefthrun_clause(const uint8_t *literals, size_t literals_length, const 
 uint64_t kefthrun_variable(const uint8_t *literals, size_t literals_length, const uint8_t *ends, size_t ends_length, const uint8_t *sets,
                            size_t sets_length, const uint8_t *kinds, size_t kinds_length, const uint8_t *state, size_t state_length, uint32_t variable);
 
+/* Writes the formula, without its steps, as tidy DQDIMACS text (docs/FORMAT.md) to the front of the output. Answered with the length of the text, its low 16
+ * bits and its high 16 bits (kefthrun_length); or refused with a number, and the output is as it was. Nothing else is written, and no 0 behind the text. */
+uint64_t kefthrun_write(uint8_t *out, size_t out_length, const uint8_t *literals, size_t literals_length, const uint8_t *ends, size_t ends_length,
+                        const uint8_t *sets, size_t sets_length, const uint8_t *kinds, size_t kinds_length, const uint8_t *state, size_t state_length);
+
 #ifdef __cplusplus
 }
 #endif
@@ -99,6 +108,9 @@ uint64_t kefthrun_variable(const uint8_t *literals, size_t literals_length, cons
 static inline unsigned kefthrun_case(uint64_t result) { return (unsigned)(result & 0xffffu); }
 static inline unsigned kefthrun_first(uint64_t result) { return (unsigned)(result >> 16 & 0xffffu); }
 static inline unsigned kefthrun_second(uint64_t result) { return (unsigned)(result >> 32 & 0xffffu); }
+
+/* The length that an answered write tells. */
+static inline size_t kefthrun_length(uint64_t result) { return kefthrun_first(result) + (size_t)65536 * kefthrun_second(result); }
 
 /* The literal at an entry of the literals. */
 static inline int kefthrun_literal(const uint8_t *literals, size_t entry) {
@@ -110,6 +122,7 @@ static inline int kefthrun_literal(const uint8_t *literals, size_t entry) {
 
 #include <array>
 #include <stdexcept>
+#include <string>
 #include <vector>
 
 namespace kefthrun {
@@ -118,6 +131,8 @@ namespace kefthrun {
 struct Result {
     unsigned tag, first, second;
     explicit Result(uint64_t r) : tag(kefthrun_case(r)), first(kefthrun_first(r)), second(kefthrun_second(r)) {}
+    /* The length that an answered write tells. */
+    size_t length() const { return kefthrun_length((uint64_t)first << 16 | (uint64_t)second << 32); }
 };
 
 /* One formula with its steps: owns the five buffers. */
@@ -156,11 +171,24 @@ public:
         for (unsigned i = 0; i < shown.second; i++) copied.push_back(kefthrun_literal(literals_.data(), shown.first + i));
         return copied;
     }
+    /* Writes the tidy text to the front of the output. A null pointer is no bytes, as for a load. */
+    Result write(uint8_t *out, size_t length) const {
+        return Result(kefthrun_write(some(out, length), length, literals_.data(), literals_.size(), ends_.data(), ends_.size(), sets_.data(), sets_.size(),
+                                     kinds_.data(), kinds_.size(), state_.data(), state_.size()));
+    }
+    /* The tidy text, copied; before a load and after a refused one that of the empty formula. Nothing if the tables are refused. */
+    std::string text() const {
+        std::string text(KEFTHRUN_TIDY_BYTES, '\0');
+        const Result written = write(reinterpret_cast<uint8_t *>(&text[0]), text.size());
+        text.resize(written.tag == KEFTHRUN_ANSWERED ? written.length() : 0);
+        text.shrink_to_fit();
+        return text;
+    }
 
 private:
     /* A pointer that is never null. */
-    static const uint8_t *some(const uint8_t *bytes, size_t length) {
-        static const uint8_t none = 0;
+    template <class Byte> static Byte *some(Byte *bytes, size_t length) {
+        static Byte none = 0;
         if (bytes != nullptr) return bytes;
         if (length != 0) throw std::invalid_argument("kefthrun: a null pointer with a length");
         return &none;

@@ -1,6 +1,7 @@
 // The exported calls over buffers with guard bytes around them, lent whole, short and long.
 #include "../include/kefthrun.h"
 
+#include <cstddef>
 #include <cstdio>
 #include <cstdlib>
 #include <string>
@@ -67,6 +68,10 @@ struct Buffers {
         return call(all[0].data(), all[0].size(), all[1].data(), all[1].size(), all[2].data(), all[2].size(), all[3].data(), all[3].size(), all[4].data(),
                     all[4].size(), number);
     }
+    uint64_t write(Guarded &out) {
+        return kefthrun_write(out.data(), out.size(), all[0].data(), all[0].size(), all[1].data(), all[1].size(), all[2].data(), all[2].size(),
+                              all[3].data(), all[3].size(), all[4].data(), all[4].size());
+    }
     std::vector<std::vector<uint8_t>> bytes() {
         std::vector<std::vector<uint8_t>> copied;
         for (Guarded &g : all) copied.push_back(g.bytes());
@@ -95,6 +100,70 @@ static std::vector<uint8_t> listing() {
 }
 
 static uint64_t packed(uint64_t tag, uint64_t a, uint64_t b) { return tag + (a << 16) + (b << 32); }
+
+static bool is_text(Guarded &out, const std::string &text) {
+    const std::vector<uint8_t> bytes = out.bytes();
+    return bytes.size() >= text.size() && std::string(bytes.begin(), bytes.begin() + static_cast<std::ptrdiff_t>(text.size())) == text;
+}
+
+// The text over outputs that are just long enough, longer, a byte short and of no byte.
+static void written(Buffers &b, const std::string &text) {
+    const std::vector<std::vector<uint8_t>> before = b.bytes();
+    const uint64_t told = packed(1, text.size() & 0xffff, text.size() >> 16);
+    expect("the length of a text", kefthrun_length(told) == text.size());
+    for (size_t more : {0u, 1u, 8u, 70000u}) {
+        Guarded out(text.size() + more);
+        expect("a text", b.write(out) == told && is_text(out, text));
+        expect("bytes behind the text stay", out.fresh_from(text.size()) && out.guards_stand());
+    }
+    for (size_t length : {text.size() - 1, text.size() / 2, size_t{1}, size_t{0}}) {
+        Guarded out(length);
+        expect("a short output is 30", b.write(out) == packed(2, KEFTHRUN_OUTPUT_TOO_SHORT, 0));
+        expect("a short output stays", out.fresh_from(0) && out.guards_stand());
+    }
+    expect("a write changes nothing else", b.bytes() == before && b.guards_stand());
+}
+
+// A write over tables that are refused with a number, whatever the output's length.
+static void not_written(Buffers &b, unsigned number) {
+    const std::vector<std::vector<uint8_t>> before = b.bytes();
+    for (size_t length : {0u, 9u, 200u}) {
+        Guarded out(length);
+        expect("a refused write", b.write(out) == packed(2, number, 0));
+        expect("its output stays", out.fresh_from(0) && out.guards_stand());
+    }
+    expect("a refused write changes nothing else", b.bytes() == before && b.guards_stand());
+}
+
+static std::string numbers(unsigned first, unsigned last) {
+    std::string all;
+    for (unsigned n = first; n <= last; n++) all += std::to_string(n) + " ";
+    return all;
+}
+
+static void texts() {
+    Buffers b;
+    expect("an untidy text", b.load("c x\np  cnf 5 3\na 4 0\ne 2 0\nd 5 4 4 0\na 3 1 0\n2  -5 2 0\n0\n-4 -2 0\n") == packed(1, 0, 0));
+    const std::string tidy = "p cnf 5 3\na 4 3 1 0\nd 2 1 3 4 0\nd 5 4 0\n2 -5 0\n0\n-2 -4 0\n";
+    written(b, tidy);
+    expect("the text is loaded again", b.load(tidy) == packed(1, 0, 0));
+    written(b, tidy);
+    const std::string forked = "p cnf 4 1\na 1 2 0\nd 4 2 0\n1 4 0\n";
+    expect("a text", b.load(forked) == packed(1, 0, 0));
+    expect("a fork", b.run(record(3, 1, 1, 2)) == packed(2, 1, 0));
+    written(b, forked);
+    // The longest sets: 64 universals of three digits, which 448 existentials see.
+    const std::string universals = "a " + numbers(449, 512) + "0\n";
+    expect("an e line", b.load("p cnf 512 0\n" + universals + "e " + numbers(1, 448) + "0\n") == packed(1, 0, 0));
+    std::string all = "p cnf 512 0\n" + universals;
+    for (unsigned x = 1; x <= 448; x++) all += "d " + std::to_string(x) + " " + numbers(449, 512) + "0\n";
+    expect("a length above 16 bits", all.size() == 118436);
+    written(b, all);
+    expect("a refused text", b.load(all) == packed(4, 0, KEFTHRUN_OVER_LIMIT));
+    written(b, "p cnf 0 0\n");
+    b[3].data()[0] = 9;
+    not_written(b, KEFTHRUN_NOT_WELL_FORMED);
+}
 
 static void whole() {
     Buffers b;
@@ -135,6 +204,7 @@ static void brief(int which) {
     expect("a short run is 1", b.run(listing()) == packed(3, 0, 1));
     expect("a short show is empty", b.ask(kefthrun_show, 1) == packed(1, 0, 0));
     expect("a short question is 1", b.ask(kefthrun_clause, 1) == packed(2, 1, 0) && b.ask(kefthrun_variable, 1) == packed(2, 1, 0));
+    not_written(b, KEFTHRUN_TABLE_TOO_SHORT);
     expect("nothing is changed", b.bytes() == before);
     expect("a short load is 1", b.load(formula) == packed(4, 0, 1));
     for (int i = 0; i < 4; i++) expect("tables stay", b[i].bytes() == before[static_cast<size_t>(i)]);
@@ -148,6 +218,7 @@ static void longer(int which) {
     expect("accepted", b.load(formula) == packed(1, 0, 0));
     expect("refuted 3 5", b.run(listing()) == packed(1, 3, 5));
     expect("bytes past the size stay", b[which].fresh_from(sizes[which]));
+    written(b, formula);
     expect("a refused text", b.load("p cnf 1\n") == packed(4, 1, 10));
     expect("bytes past the size stay", b[which].fresh_from(sizes[which]));
     expect("guards", b.guards_stand());
@@ -184,9 +255,45 @@ static void class_in_cpp() {
     expect("no variable 3", is(checker.variable(3), KEFTHRUN_REFUSED, KEFTHRUN_UNKNOWN_VARIABLE, 0));
 }
 
+// The class: the text as a string, and outputs of the caller.
+static void texts_in_cpp() {
+    kefthrun::Checker checker;
+    expect("the text before a load", checker.text() == "p cnf 0 0\n");
+    const std::vector<uint8_t> text(formula.begin(), formula.end());
+    expect("accepted", is(checker.load(text.data(), text.size()), KEFTHRUN_LOAD_ACCEPTED, 0, 0));
+    expect("the text", checker.text() == formula);
+    expect("refuted 3 5", is(checker.run(listing().data(), listing().size()), KEFTHRUN_RUN_REFUTED, 3, 5));
+    expect("the text without the steps", checker.text() == formula);
+    std::vector<uint8_t> out(text.size());
+    expect("an output of the text's length", checker.write(out.data(), out.size()).length() == text.size() && out == text);
+    std::vector<uint8_t> brief(text.size() - 1, 126);
+    expect("an output a byte short", is(checker.write(brief.data(), brief.size()), KEFTHRUN_REFUSED, KEFTHRUN_OUTPUT_TOO_SHORT, 0));
+    expect("which stays", brief == std::vector<uint8_t>(text.size() - 1, 126));
+    std::vector<uint8_t> more(text.size() + 5, 126), wanted = text;
+    wanted.insert(wanted.end(), 5, 126);
+    expect("a longer output", checker.write(more.data(), more.size()).length() == text.size() && more == wanted);
+    std::vector<uint8_t> none;
+    expect("an empty vector", is(checker.write(none.data(), none.size()), KEFTHRUN_REFUSED, KEFTHRUN_OUTPUT_TOO_SHORT, 0));
+    expect("no output at all", is(checker.write(nullptr, 0), KEFTHRUN_REFUSED, KEFTHRUN_OUTPUT_TOO_SHORT, 0));
+    bool thrown = false;
+    try {
+        checker.write(nullptr, 100);
+    } catch (const std::invalid_argument &) {
+        thrown = true;
+    }
+    expect("a null output with a length", thrown);
+    const std::string sets = "p cnf 512 0\na " + numbers(449, 512) + "0\ne " + numbers(1, 448) + "0\n";
+    expect("an e line", is(checker.load(reinterpret_cast<const uint8_t *>(sets.data()), sets.size()), KEFTHRUN_LOAD_ACCEPTED, 0, 0));
+    expect("a long text", checker.text().size() == 118436 && checker.write(nullptr, 0).first == KEFTHRUN_OUTPUT_TOO_SHORT);
+    expect("no text", is(checker.load(nullptr, 0), KEFTHRUN_LOAD_REFUSED, 1, KEFTHRUN_NO_FORM));
+    expect("the text after a refused load", checker.text() == "p cnf 0 0\n");
+}
+
 int main() {
     whole();
+    texts();
     class_in_cpp();
+    texts_in_cpp();
     for (int i = 0; i < 5; i++) {
         brief(i);
         longer(i);

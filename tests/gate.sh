@@ -10,6 +10,7 @@ while [ ! -d target/must-fail ] && [ ! -e reference/target/gate/verdict ]; do
 done
 tests/driver.sh
 tests/examples.sh
+tests/tidy.sh
 tests/soundness.sh
 tests/differential.sh --jobs "$(nproc)"
 tests/depqbf.sh

@@ -53,6 +53,9 @@ fn comparisons() {
     for work in lists[0].single() {
         compared(&work);
     }
+    for work in work::writes().iter().chain(&random::writes()) {
+        compared(work);
+    }
 }
 
 /// The times of some works and the ratio of the last two. A ratio that is not
@@ -99,12 +102,15 @@ fn stacks() {
     let mut runs: Vec<Work> = lists.iter().map(|list| list.run(list.most)).collect();
     runs.extend(random::runs());
     let single = lists[0].single();
+    let mut writes = work::writes();
+    writes.extend(random::writes());
     for (name, works) in [
         ("load", &loads[..]),
         ("run", &runs[..]),
         ("show", &single[1..2]),
         ("length of a clause", &single[2..3]),
         ("kind of a variable", &single[3..]),
+        ("write", &writes[..]),
     ] {
         let most =
             |library: fn(&Work)| works.iter().map(|work| stack::used(|| library(work))).max();

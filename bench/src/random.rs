@@ -45,10 +45,8 @@ fn clause(random: &mut Random, literals: usize) -> Vec<i32> {
     clause
 }
 
-/// As many clauses over 512 variables as there is room for.
-fn clauses(random: &mut Random, clause: impl Fn(&mut Random) -> Vec<i32>) -> String {
-    let (universals, existentials) = (joined(1..=UNIVERSALS), joined(65..=512));
-    let prefix = format!("a {universals} 0\ne {existentials} 0\n");
+/// As many clauses over 512 variables as there is room for behind a prefix.
+fn clauses(prefix: &str, random: &mut Random, clause: impl Fn(&mut Random) -> Vec<i32>) -> String {
     let room = TEXT_LIMIT - "p cnf 512 2048\n".len() - prefix.len();
     let (mut lines, mut count, mut literals) = (String::new(), 0, 0);
     loop {
@@ -65,7 +63,17 @@ fn clauses(random: &mut Random, clause: impl Fn(&mut Random) -> Vec<i32>) -> Str
 
 /// As many existentials with random sets as there is room for.
 fn random_sets(random: &mut Random) -> String {
-    let mut text = format!("p cnf 512 0\na {} 0\n", joined(1..=UNIVERSALS));
+    sets_of(random, (1..=UNIVERSALS as i32).collect())
+}
+
+/// The same with the universals declared in no order.
+fn random_sets_and_bits(random: &mut Random) -> String {
+    let universals = some(random, UNIVERSALS, UNIVERSALS);
+    sets_of(random, universals)
+}
+
+fn sets_of(random: &mut Random, universals: Vec<i32>) -> String {
+    let mut text = format!("p cnf 512 0\na {} 0\n", joined(universals));
     for existential in 65..=512 {
         let members = random.below(UNIVERSALS + 1);
         let set = some(random, UNIVERSALS, members);
@@ -80,7 +88,11 @@ fn random_sets(random: &mut Random) -> String {
 
 fn load_of_clauses(name: String, clause: impl Fn(&mut Random) -> Vec<i32>) -> Work {
     let name = format!("load, random clauses of {name}");
-    work(name, |random| Input::load(clauses(random, &clause)))
+    let (universals, existentials) = (joined(1..=UNIVERSALS), joined(65..=512));
+    let prefix = format!("a {universals} 0\ne {existentials} 0\n");
+    work(name, |random| {
+        Input::load(clauses(&prefix, random, &clause))
+    })
 }
 
 pub fn loads() -> Vec<Work> {
@@ -117,6 +129,30 @@ pub fn loads() -> Vec<Work> {
         Input::load(random_sets(random))
     }));
     works
+}
+
+/// Without universals, so that the text is its clauses for the most part.
+fn write_of_clauses(literals: usize) -> Work {
+    let name = format!("write, random clauses of {literals} literals");
+    let prefix = format!("e {} 0\n", joined(1..=512));
+    work(name, |random| {
+        let text = clauses(&prefix, random, |random| clause(random, literals));
+        Input::write(&text)
+    })
+}
+
+pub fn writes() -> Vec<Work> {
+    vec![
+        write_of_clauses(4),
+        write_of_clauses(32),
+        work("write, random sets".into(), |random| {
+            Input::write(&random_sets(random))
+        }),
+        work(
+            "write, random sets, universals in no order".into(),
+            |random| Input::write(&random_sets_and_bits(random)),
+        ),
+    ]
 }
 
 /// In the formulas of the runs the existentials are 65 to 128. Each variable has one

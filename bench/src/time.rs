@@ -6,6 +6,7 @@ use archive::Archive;
 use checker::driver::Buffers;
 use differential::library::{self, Lean, Library};
 use differential::oracle;
+use differential::scenario::Call;
 
 use crate::work::{Input, Work};
 
@@ -16,22 +17,36 @@ pub struct Times {
     pub reference: Duration,
 }
 
-/// The call's time, answer and buffers.
-pub type Outcome = (Duration, u64, Buffers);
-
-pub fn call(library: &mut impl Library, input: &Input) -> Outcome {
-    // Copies, so that both are in the cache whoever is called first.
-    let (mut buffers, call) = (input.start.clone(), input.call.clone());
-    let start = Instant::now();
-    let word = library::answer(library, &mut buffers, &call);
-    (start.elapsed(), word, buffers)
+/// What a call answers and leaves.
+#[derive(Clone, PartialEq)]
+pub struct Left {
+    word: u64,
+    buffers: Buffers,
+    output: Vec<u8>,
 }
 
-fn call_reference(input: &Input) -> Outcome {
-    let mut buffers = input.start.clone();
+/// The call's time and what it leaves.
+pub type Outcome = (Duration, Left);
+
+fn timed(input: &Input, make: impl FnOnce(&mut Buffers, &Call, &mut [u8]) -> u64) -> Outcome {
+    // Copies, so that all are in the cache whoever is called first.
+    let (mut buffers, call) = (input.start.clone(), input.call.clone());
+    let mut output = call.output();
     let start = Instant::now();
-    let word = oracle::answer(&mut buffers, &input.call);
-    (start.elapsed(), word, buffers)
+    let word = make(&mut buffers, &call, &mut output);
+    let time = start.elapsed();
+    let left = Left {
+        word,
+        buffers,
+        output,
+    };
+    (time, left)
+}
+
+pub fn call(library: &mut impl Library, input: &Input) -> Outcome {
+    timed(input, |buffers, call, output| {
+        library::answer(library, buffers, call, output)
+    })
 }
 
 fn median(mut times: Vec<Duration>) -> Duration {
@@ -50,7 +65,7 @@ pub fn each(library: &mut impl Library, works: &[Work], rounds: usize) -> Vec<Du
     times.into_iter().map(median).collect()
 }
 
-/// The medians of all three, which must agree on answer and buffers.
+/// The medians of all three, which must agree on what they leave.
 pub fn all(work: &Work, rounds: usize) -> Times {
     let mut times = [Vec::new(), Vec::new(), Vec::new()];
     for round in 0..rounds {
@@ -62,15 +77,11 @@ pub fn all(work: &Work, rounds: usize) -> Times {
         let mut outcomes = vec![archive, lean];
         // The reference is slow, and a tenth of the rounds is enough for it.
         if round % 10 == 0 {
-            outcomes.push(call_reference(input));
+            outcomes.push(timed(input, oracle::answer));
         }
-        let (_, word, buffers) = outcomes[0].clone();
-        for (time, (each, other_word, other_buffers)) in times.iter_mut().zip(outcomes) {
-            assert!(
-                word == other_word && buffers == other_buffers,
-                "{}",
-                work.name
-            );
+        let (_, left) = outcomes[0].clone();
+        for (time, (each, other)) in times.iter_mut().zip(outcomes) {
+            assert!(left == other, "{}", work.name);
             time.push(each);
         }
     }

@@ -1,8 +1,10 @@
-//! What is timed: the largest texts, long lists and questions on full tables.
+//! What is timed: the largest texts, long lists, questions on full tables and tidy
+//! texts.
 //! The works of `random` are random ones.
 
 use cases::case::{bytes_of, Words};
 use checker::driver::Buffers;
+use checker::limits::TIDY_BYTES;
 use differential::scenario::Call;
 
 /// A call on given buffers.
@@ -35,10 +37,21 @@ impl Input {
         }
     }
 
+    /// The write of a formula over an output as long as its tidy text.
+    pub fn write(text: &str) -> Input {
+        let start = loaded(text);
+        let length = start.write(&mut vec![0; TIDY_BYTES]);
+        Input {
+            start,
+            call: Call::Write(length.expect("an output that is long enough")),
+        }
+    }
+
     /// Records, or bytes of text.
     fn size(&self) -> usize {
         match &self.call {
             Call::Load(text) => text.len(),
+            Call::Write(length) => *length,
             Call::Run(records) => records.len() / 16,
             _ => 1,
         }
@@ -122,6 +135,24 @@ pub fn loads() -> Vec<Work> {
         ("load, sets of 64 universals", large_sets()),
     ];
     let works = texts.map(|(name, text)| Work::one(name, Input::load(text)));
+    works.into()
+}
+
+/// 64 universals and 448 existentials that see them all.
+fn full_sets() -> String {
+    let (universals, existentials) = (joined(1..=64), joined(65..=512));
+    format!("p cnf 512 0\na {universals} 0\ne {existentials} 0\n")
+}
+
+pub fn writes() -> Vec<Work> {
+    let small = "p cnf 2 2\na 1 0\nd 2 0\n1 2 0\n-1 -2 0\n";
+    let texts = [
+        ("write, 2,048 clauses of 4 literals", short_clauses()),
+        ("write, 256 clauses of 32 literals", falling_clauses()),
+        ("write, 448 sets of 64 universals", full_sets()),
+        ("write, a small formula", small.into()),
+    ];
+    let works = texts.map(|(name, text)| Work::one(name, Input::write(&text)));
     works.into()
 }
 

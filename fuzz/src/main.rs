@@ -19,7 +19,8 @@ pub unsafe extern "C" fn LLVMFuzzerTestOneInput(input: *const u8, length: usize)
         _ => std::slice::from_raw_parts(input, length),
     };
     let scenario = scenario(input);
-    let right = |buffers: &mut Buffers, call: &Call| answer(&mut Lean, buffers, call);
+    let right =
+        |buffers: &mut Buffers, call: &Call, out: &mut [u8]| answer(&mut Lean, buffers, call, out);
     if let Some(found) = compare_with(right, &scenario, &mut Archive) {
         eprintln!(
             "{}: {}",

@@ -5,4 +5,6 @@ pub mod Additions
 pub mod Validity
 pub mod RunCount
 pub mod SetSize
+pub mod ReadsBack
+pub mod Exact
 pub mod MarkedCases

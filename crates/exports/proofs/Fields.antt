@@ -2,7 +2,7 @@
 use mathlib.Core.Path.{_≡_, refl}
 use mathlib.Core.Bool.{cond, _||_, Bool, true, false}
 use mathlib.Core.List.{List, [], _∷_}
-use Prim.Native.Nat.{ℕ, _<_}
+use Prim.Native.Nat.{ℕ, _+_, _*_, _/_, _<_}
 use native.Mathlib.Omega.{arith}
 use lib.Dec.{eqb, ltb}
 use lib.ListN.{length}
@@ -16,6 +16,7 @@ use Rattle.dqbf.specs.Limits.{tables}
 use Rattle.dqbf.specs.Reading.{load, accepted, refused}
 use Rattle.dqbf.specs.Run.{Verdict, refuted, open′, bad, run}
 use Rattle.dqbf.specs.Reading as Reading
+use Rattle.dqbf.specs.Spelled.{spelled}
 use Rattle.tables.specs.declared.State.{State}
 use Rattle.tables.specs.Unusable.{unlessRefused}
 use Rattle.tables.specs.Tables.{Tables, modelIn}
@@ -25,13 +26,16 @@ use Rattle.tables.proofs.Laws.Spread.{valid-held}
 use Rattle.questions.specs.Answers.{lengthAnswer, variableAnswer}
 use Rattle.dqdimacs.specs.Loading.{loadAnswer, loadedOn, loadOf}
 use Rattle.steps.specs.Steps.{runAnswer, ranOn, runRefused, runOf}
+use Rattle.formula_text.specs.Writing.{textLength, noText}
 use Rattle.buffers.specs.Buffers.{Buffers, whole, tablesIn, stateIn}
-use Rattle.results.specs.Results.{packed, loadResult, runResult, clauseResult, variableResult}
-use Rattle.exports.specs.Calls.{loaded, loadBytes, ran, runBytes, clauseBytes, variableBytes}
-use Rattle.exports.specs.Statements.Fields.{fields, loadFields, runFields, clauseFields, variableFields, LoadTells, RunTells, ClauseTells, VariableTells}
+use Rattle.results.specs.Results.{packed, field, loadResult, runResult, clauseResult, variableResult, writeResult}
+use Rattle.exports.specs.Calls.{loaded, loadBytes, ran, runBytes, clauseBytes, variableBytes, wrote, writeBytes}
+use Rattle.exports.specs.Statements.Fields.{fields, loadFields, runFields, clauseFields, variableFields, writeFields, LoadTells, RunTells, ClauseTells, VariableTells, WriteTells, WriteTellsLength}
 use Rattle.buffers.proofs.Laws.{lent-long}
-use Rattle.results.proofs.Laws.{case-is, first-is, second-is}
+use Rattle.results.proofs.Laws.{case-is, first-is, second-is, first-cut, two-fields}
 use Rattle.exports.proofs.Laws.Short.{ShortVerdict, run-short, ShortLoaded, load-short, length-short, kind-short, size-short}
+use Rattle.formula_text.proofs.Laws.Written.{written-by}
+use Rattle.exports.proofs.Laws.Written.{text-short, bytes-written-by, never-told}
 
 pub fields-are : (k a b : ℕ) → k < 65536 → a < 65536 → b < 65536 → fields (packed k a b) ≡ k ∷ a ∷ b ∷ []
 unfolding fields
@@ -100,3 +104,26 @@ clause-tells b c w = rw w (clause-fields (tablesIn b) (stateIn b) (lent-long b w
 pub variable-tells : VariableTells
 unfolding variableBytes
 variable-tells b x w = rw w (variable-fields (tablesIn b) (stateIn b) (lent-long b w) x (wellFormed (tablesIn b) (stateIn b)) refl)
+
+-- ---- a written formula
+
+length-fields : (n : ℕ) → n < 4294967296 → fields (writeResult (textLength n)) ≡ writeFields (textLength n)
+unfolding fields writeResult writeFields
+length-fields n h =
+    let high : n / 65536 < 65536 = omega arith in
+    rw (case-is 1 n (n / 65536) (omega arith), first-cut 1 n (n / 65536) (omega arith), second-is 1 n (n / 65536) (omega arith) high)
+
+refused-fields : (n : ℕ) → n < 65536 → fields (writeResult (noText (refusal n))) ≡ writeFields (noText (refusal n))
+unfolding writeResult writeFields
+refused-fields n h = fields-are 2 n 0 (omega arith) h (omega arith)
+
+pub write-tells : WriteTells
+unfolding writeBytes wrote
+write-tells b out w =
+    rw w (written-by (tablesIn b) (stateIn b) out (λ x. fields (writeResult (x .answer)) ≡ writeFields (x .answer)) (λ n h short. refused-fields n h)
+    (λ lent formed fits. length-fields _ (text-short (tablesIn b) (stateIn b) lent formed)))
+
+pub write-tells-length : WriteTellsLength
+write-tells-length b out =
+    bytes-written-by b out (λ x. field 0 (x .result) ≡ 1 → field 1 (x .result) + 65536 * field 2 (x .result) ≡ length (spelled (modelIn (tablesIn b) (stateIn b))))
+    (λ n h e. absurd (never-told n e)) (λ short fits e. two-fields _ short)

@@ -6,6 +6,9 @@
 --     loadWhole, runWhole                          the same over buffers that are long enough
 --     loadShort, runShort                          the same where one is too short
 --     showBytes, clauseBytes, variableBytes        the results of the calls that write nothing
+--     AfterWriteBytes                              the output behind a written formula, and the result
+--     writeBytes                                   what a written formula leaves and returns: the buffers are read only (document 02, Note 1)
+--     writeWhole, writeShort                       the same over buffers that are long enough, and where one is too short
 -- What a result's fields tell: specs/Statements/Fields.antt; the interface's number: specs/Interface.antt of the crate `driver`.
 use mathlib.Core.Bool.{cond}
 use mathlib.Core.List.{List, []}
@@ -18,9 +21,10 @@ use Rattle.dqdimacs.specs.Loading.{AfterLoad, loadOf}
 use Rattle.dqdimacs.specs.declared.LoadAnswer.the-variants as Load
 use Rattle.steps.specs.Steps.{AfterRun, runOf}
 use Rattle.steps.specs.declared.RunAnswer.the-variants as Run
+use Rattle.formula_text.specs.Writing.{noText, AfterWrite, writeOf}
 use Rattle.codec.specs.Bytes.{Bytes, over}
 use Rattle.buffers.specs.Buffers.{Buffers, buffersOf, stateSize, stateWhole, whole, tablesIn, stateIn, written}
-use Rattle.results.specs.Results.{loadResult, runResult, clauseResult, showResult, variableResult}
+use Rattle.results.specs.Results.{loadResult, runResult, clauseResult, showResult, variableResult, writeResult}
 
 -- every entry of the buffers is a byte
 pub record AllBytes (b : Buffers) : Type 0 where
@@ -77,3 +81,21 @@ clauseBytes b c = cond (whole b) (clauseResult (lengthAnswer (tablesIn b) (state
 
 unfoldable pub variableBytes : Buffers → ℕ → ℕ
 variableBytes b x = cond (whole b) (variableResult (variableAnswer (tablesIn b) (stateIn b) x)) (variableResult (noVariable (refusal 1)))
+
+-- ---- a written formula
+
+pub record AfterWriteBytes : Type 0 where
+  pub output : List ℕ
+  pub result : ℕ
+
+unfoldable pub wrote : AfterWrite → AfterWriteBytes
+wrote w = record { output = w .output; result = writeResult (w .answer) }
+
+unfoldable pub writeShort : List ℕ → AfterWriteBytes
+writeShort out = record { output = out; result = writeResult (noText (refusal 1)) }
+
+abbrev pub writeWhole : Buffers → (out : List ℕ) → AfterWriteBytes
+writeWhole b out = wrote (writeOf (tablesIn b) (stateIn b) out)
+
+unfoldable pub writeBytes : Buffers → (out : List ℕ) → AfterWriteBytes
+writeBytes b out = cond (whole b) (writeWhole b out) (writeShort out)

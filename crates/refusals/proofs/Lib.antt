@@ -1,3 +1,4 @@
--- The claims of specs/Statements.antt: of the lent tables, and of the driver's buffers
+-- The claims of specs/Statements.antt: of the lent tables, of the driver's buffers, and of a written formula
 pub mod Buffers
 pub mod Tables
+pub mod Written

@@ -14,19 +14,25 @@
 --     JudgeShort         with fewer bytes lent than a line may need, `judge` leaves these
 -- `loadBytes` and `runBytes` are the outcomes that the contracts of the exports `kefthrun_load` and `kefthrun_run` promise of the driver's buffers; `whole` is
 -- the test of number 1. `RunBytesSame` rests on every entry of a lent buffer being a byte. The prover knows that of each call, so the contract of `kefthrun_run`
--- promises `RunBytesSame` itself (`RunPromised`). The other exports write nothing: they borrow the buffers for reading.
+-- promises `RunBytesSame` itself (`RunPromised`). The other exports write nothing to the buffers: they borrow them for reading.
 --     RunBytesShort      number 1: a run leaves every buffer
 --     RunBytesSame       a run that is refused as a whole (1, 2, 11) or at its first record leaves every buffer, byte for byte
 --     RunBytesStopped    a run stopped at a step leaves the bytes that the run over the records before that step leaves
 --     LoadBytesShort     number 1: a load leaves every buffer, except that it zeroes a state lent whole
 --     LoadBytesZeroed    a refused formula leaves the stated bytes 0 and the bytes past them
+-- `writeOf` and `writeBytes` are the outcomes that the contracts of `write_formula` and of the export `kefthrun_write` promise of the output (document 02, Note 1).
+-- Tables, state and buffers are lent to these for reading.
+--     WriteSame, WriteBytesSame      a refusal, whatever its number (1, 2, 30), leaves the output
+--     WriteRest, WriteBytesRest      behind a written text the output is as it was, and as long
+--     WriteBytesShort                number 1: too few bytes in any buffer
 use mathlib.Core.Path.{_≡_}
 use mathlib.Core.Bool.{true, false, cond}
 use mathlib.Core.List.{List, _++_}
-use Prim.Native.Nat.{ℕ, suc, _*_, _≤_, _<_}
+use Prim.Native.Nat.{ℕ, suc, _+_, _*_, _≤_, _<_}
 use lib.IntN.{pos}
 use lib.ListN.{length, replicate, take, drop}
 use Rattle.dqbf.specs.Limits.{clauseLimit, literalLimit, variableLimit, recordSize}
+use Rattle.dqbf.specs.Refusal.{Refusal, refusal}
 use Rattle.tables.specs.Tables.{Tables}
 use Rattle.tables.specs.Statements.{Framed}
 use Rattle.tables.specs.Spread.{zeroState}
@@ -38,13 +44,14 @@ use Rattle.additions.specs.declared.StepAnswer.the-variants as Step
 use Rattle.steps.specs.Steps.{stepOf, runOf}
 use Rattle.steps.specs.Runs.{verdictIn}
 use Rattle.steps.specs.declared.RunAnswer.the-variants as Run
+use Rattle.formula_text.specs.Writing.{textLength, noText, writeOf}
 use Rattle.lines.specs.Lines.{outputSize, written, withLine}
 use Rattle.lines.specs.declared.line.Written.the-variants.{TooShort}
 use Rattle.verdict.specs.Judging.{judgedTables}
 use Rattle.codec.specs.Bytes.{over}
 use Rattle.buffers.specs.Buffers.{Buffers, buffersOf, stateSize, stateWhole, whole, tablesIn, stateIn}
-use Rattle.results.specs.Results.{loadResult, runResult}
-use Rattle.exports.specs.Calls.{After, loadBytes, runBytes}
+use Rattle.results.specs.Results.{field, loadResult, runResult, writeResult}
+use Rattle.exports.specs.Calls.{After, loadBytes, runBytes, writeBytes}
 use Rattle.exports.specs.Statements.Fields.{fields, loadFields, runFields}
 
 -- ---- 1 and 2
@@ -158,3 +165,30 @@ abbrev pub LoadBytesZeroed : Type 0
 LoadBytesZeroed =
     (b : Buffers) (text : List ℕ) (line number : ℕ) → whole b ≡ true → fields (loadBytes b text .result) ≡ loadFields (Load.Refused line number)
     → loadBytes b text .buffers ≡ zeroedBytes b
+
+-- ---- a written formula: "output untouched", "Output past the text is untouched"
+
+abbrev pub WriteSame : Type 0
+WriteSame = (t : Tables) (s : State) (out : List ℕ) (r : Refusal) → writeOf t s out .answer ≡ noText r → writeOf t s out .output ≡ out
+
+-- n bytes fit the output, what is behind them is as it was, and the output is as long as it was
+pub record PastSame (n : ℕ) (out left : List ℕ) : Type 0 where
+  pub inside : n ≤ length out
+  pub rest : drop n left ≡ drop n out
+  pub size : length left ≡ length out
+
+abbrev pub WriteRest : Type 0
+WriteRest = (t : Tables) (s : State) (out : List ℕ) (n : ℕ) → writeOf t s out .answer ≡ textLength n → PastSame n out (writeOf t s out .output)
+
+abbrev pub WriteBytesShort : Type 0
+WriteBytesShort = (b : Buffers) (out : List ℕ) → whole b ≡ false → writeBytes b out ≡ record { output = out; result = writeResult (noText (refusal 1)) }
+
+-- the result tells a refusal
+abbrev pub WriteBytesSame : Type 0
+WriteBytesSame = (b : Buffers) (out : List ℕ) → field 0 (writeBytes b out .result) ≡ 2 → writeBytes b out .output ≡ out
+
+-- the result tells a written text, and its length in two fields
+abbrev pub WriteBytesRest : Type 0
+WriteBytesRest =
+    (b : Buffers) (out : List ℕ) → let r = writeBytes b out .result in
+    field 0 r ≡ 1 → PastSame (field 1 r + 65536 * field 2 r) out (writeBytes b out .output)

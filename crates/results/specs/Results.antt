@@ -4,12 +4,14 @@
 --     field                                             a field of it
 --     loadResult, runResult, clauseResult, variableResult      of each answer, with the paper's numbers of refusal
 --     showResult                                        of a shown clause: place and length, and no refusal
+--     writeResult                                       of a written formula: the text's length in two fields, the low 16 bits first
 use Prim.Native.Nat.{ℕ, zero, suc, _+_, _*_, _/_, _%_}
 use lib.ListN.{length}
 use Rattle.dqbf.specs.Literal.{Clause}
 use Rattle.dqbf.specs.Questions.{ClauseAnswer, clauseLength, noClause, VariableAnswer, variable, noVariable}
 use Rattle.dqdimacs.specs.declared.LoadAnswer.{LoadAnswer}
 use Rattle.dqdimacs.specs.declared.LoadAnswer.the-variants as Load
+use Rattle.formula_text.specs.Writing.{TextAnswer, textLength, noText}
 use Rattle.steps.specs.declared.RunAnswer.{RunAnswer}
 use Rattle.steps.specs.declared.RunAnswer.the-variants as Run
 
@@ -49,3 +51,8 @@ stretchResult start (noClause r) = packed 1 0 0
 unfoldable pub variableResult : VariableAnswer → ℕ
 variableResult (variable kind universals) = packed 1 kind universals
 variableResult (noVariable r) = packed 2 (r .number) 0
+
+-- 1: the length, its low 16 bits and the next 16; 2: refused with its number
+unfoldable pub writeResult : TextAnswer → ℕ
+writeResult (textLength n) = packed 1 n (n / 65536)
+writeResult (noText r) = packed 2 (r .number) 0

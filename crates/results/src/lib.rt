@@ -1,8 +1,10 @@
 // Results: one number of four 16-bit fields. The case is never 0.
 ghost use mathlib.Core.Path.{_≡_};
-ghost use Rattle.results.specs.Results.{packed, loadResult, runResult, clauseResult, stretchResult, variableResult};
+ghost use Rattle.results.specs.Results.{packed, loadResult, runResult, clauseResult, stretchResult, variableResult, writeResult};
 ghost use Rattle.questions.specs.Answers.{lengthTold, variableTold};
+ghost use Rattle.formula_text.specs.Writing.{writeTold};
 use dqdimacs::LoadAnswer;
+use formula_text::WriteAnswer;
 use questions::LengthAnswer;
 use questions::VariableAnswer;
 use steps::RunAnswer;
@@ -17,7 +19,7 @@ pub const REFUTED: u8 = 1;
 pub const OPEN: u8 = 2;
 
 pub const BAD: u8 = 3;
-// of a question
+// of a question, and of a written formula
 pub const ANSWERED: u8 = 1;
 
 pub const REFUSED: u8 = 2;
@@ -79,5 +81,19 @@ pub fn of_variable(answer: VariableAnswer) -> u64
             universals as u32,
         ),
         VariableAnswer::Refused(number) => pack(REFUSED, number as u32, 0),
+    }
+}
+
+// A text's length may have more than 16 bits: it is told in both values.
+pub fn of_write(answer: WriteAnswer) -> u64
+    ensures { λ r. ⌜ r ≡ writeResult (writeTold answer) ⌝ }
+{
+    match answer {
+        WriteAnswer::Length(length) => pack(
+            ANSWERED,
+            (length % 65536) as u32,
+            (length / 65536 % 65536) as u32,
+        ),
+        WriteAnswer::Refused(number) => pack(REFUSED, number as u32, 0),
     }
 }

@@ -77,6 +77,21 @@ extern "C" {
         state_length: usize,
         variable: u32,
     ) -> u64;
+
+    fn kefthrun_write(
+        out: *mut u8,
+        out_length: usize,
+        literals: *const u8,
+        literals_length: usize,
+        ends: *const u8,
+        ends_length: usize,
+        sets: *const u8,
+        sets_length: usize,
+        kinds: *const u8,
+        kinds_length: usize,
+        state: *const u8,
+        state_length: usize,
+    ) -> u64;
 }
 
 /// Calls a writing function with an input and the five buffers.
@@ -159,5 +174,26 @@ impl Library for Archive {
 
     fn variable(&mut self, lent: Shared, variable: u32) -> u64 {
         read!(kefthrun_variable, lent, variable)
+    }
+
+    fn write(&mut self, out: &mut [u8], lent: Shared) -> u64 {
+        let [literals, ends, sets, kinds, state] = lent;
+        // Safe: every pointer is a slice's, with its length, and no two overlap.
+        unsafe {
+            kefthrun_write(
+                out.as_mut_ptr(),
+                out.len(),
+                literals.as_ptr(),
+                literals.len(),
+                ends.as_ptr(),
+                ends.len(),
+                sets.as_ptr(),
+                sets.len(),
+                kinds.as_ptr(),
+                kinds.len(),
+                state.as_ptr(),
+                state.len(),
+            )
+        }
     }
 }

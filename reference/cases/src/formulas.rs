@@ -130,6 +130,54 @@ fn random_prefix(random: &mut Random, universals: &[u32], existentials: &[u32]) 
     prefix
 }
 
+/// A formula of 0 to 64 universals anywhere among the variables, on several lines
+/// and in any order, with empty, full and other sets. Sometimes all variables up
+/// to 512 are declared, so that the tidy text is longer than a load takes.
+pub fn prefixed_formula(random: &mut Random) -> Draft {
+    let universals = random.pick(&[0, 1, 2, 10, 31, 32, 33, 63, 64, 64]);
+    let existentials = random.pick(&[0, 1, 5, 20, 60]);
+    let declared = universals + existentials;
+    let variables = random.pick(&[declared, declared + 1, 100, 512, 512]);
+    let mut numbers: Vec<u32> = (1..=variables.max(declared) as u32).collect();
+    if random.chance(80) {
+        random.shuffle(&mut numbers);
+    }
+    let (universals, rest) = numbers.split_at(universals);
+    let (existentials, others) = rest.split_at(existentials);
+    let mut prefix = large_prefix(random, universals, existentials);
+    if !others.is_empty() && random.chance(50) {
+        let place = random.below(prefix.len() + 1);
+        prefix.insert(place, Prefix::Existentials(others.to_vec()));
+    }
+    let size = Size {
+        width: (0, 8),
+        ..SMALL
+    };
+    let count = random.below(12);
+    let clauses = (0..count).map(|_| random_clause(random, universals, existentials, size));
+    Draft {
+        variables: numbers.len(),
+        prefix,
+        clauses: clauses.collect(),
+    }
+}
+
+/// Up to four `a` lines, and a `d` line for each existential.
+fn large_prefix(random: &mut Random, universals: &[u32], existentials: &[u32]) -> Vec<Prefix> {
+    let most = universals.len().max(1);
+    let lines = universals.chunks(random.between(most.div_ceil(4), most));
+    let mut prefix: Vec<Prefix> = lines
+        .map(|line| Prefix::Universals(line.to_vec()))
+        .collect();
+    for &existential in existentials {
+        let percent = random.pick(&[0, 10, 50, 90, 100]);
+        let set = random.some(universals, percent);
+        let place = random.between(first_place(&prefix, &set), prefix.len());
+        prefix.insert(place, Prefix::Existential(existential, set));
+    }
+    prefix
+}
+
 /// The first place behind all `a` lines that declare a member of the set.
 fn first_place(prefix: &[Prefix], set: &[u32]) -> usize {
     let declares = |line: &Prefix| match line {

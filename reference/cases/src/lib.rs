@@ -17,6 +17,7 @@ pub mod seeded;
 pub mod shaped;
 pub mod stepped;
 pub mod tabled;
+pub mod tidied;
 
 use case::Case;
 

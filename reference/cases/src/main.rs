@@ -1,7 +1,8 @@
 //! `cases --seed S --count N` with `--out FILE`, `--dir DIR`, `--joined DIR` or
 //! `--lines FILE` writes cases; `--only PREFIX` keeps those whose label begins so.
 //! `cases --vectors DIR` writes the data and the stdout of the program `vectors`,
-//! `cases --steps DIR` those of the program `steps_test`.
+//! `cases --steps DIR` those of the program `steps_test`, `cases --texts DIR` those
+//! of the program `tidy_test`.
 
 #![forbid(unsafe_code)]
 
@@ -11,11 +12,11 @@ use std::path::{Path, PathBuf};
 use std::process::ExitCode;
 
 use cases::case::Case;
-use cases::{container, generate, packed, stepped, vectors};
+use cases::{container, generate, packed, stepped, tidied, vectors};
 
 const USAGE: &str = "usage: cases [--seed S] [--count N] [--only PREFIX] \
     [--out FILE] [--dir DIR] [--joined DIR] [--lines FILE] \
-    [--vectors DIR] [--steps DIR]";
+    [--vectors DIR] [--steps DIR] [--texts DIR]";
 
 #[derive(Default)]
 struct Options {
@@ -28,6 +29,7 @@ struct Options {
     lines: Option<PathBuf>,
     vectors: Option<PathBuf>,
     steps: Option<PathBuf>,
+    texts: Option<PathBuf>,
 }
 
 fn options() -> Option<Options> {
@@ -45,6 +47,7 @@ fn options() -> Option<Options> {
             "--lines" => options.lines = Some(value.into()),
             "--vectors" => options.vectors = Some(value.into()),
             "--steps" => options.steps = Some(value.into()),
+            "--texts" => options.texts = Some(value.into()),
             _ => return None,
         }
     }
@@ -68,6 +71,10 @@ fn write(options: &Options) -> io::Result<usize> {
     if let Some(folder) = options.steps.as_deref() {
         let cases = stepped::cases();
         return write_program(folder, &cases, stepped::printed(&cases));
+    }
+    if let Some(folder) = options.texts.as_deref() {
+        let cases = tidied::cases();
+        return write_program(folder, &cases, tidied::printed(&cases));
     }
     let mut cases = generate(options.seed, options.count);
     cases.retain(|case| case.label.starts_with(&options.only));

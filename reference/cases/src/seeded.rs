@@ -27,6 +27,15 @@ pub fn case(seed: u64, index: u64) -> Case {
     }
 }
 
+/// A case beside those of [`case`]: a large prefix, for tidy texts.
+pub fn prefixed(seed: u64, index: u64) -> Case {
+    let random = &mut Random::for_case(seed ^ 2, index);
+    let text = formulas::prefixed_formula(random).loose(random);
+    let mut prover = Prover::new(loaded(&text), random);
+    prover.wander(20);
+    Case::checked("seeded/prefix", text, records_of(&prover.steps))
+}
+
 /// A formula that can be saturated fast.
 fn formula(random: &mut Random) -> Draft {
     match random.below(20) {

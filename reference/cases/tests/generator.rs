@@ -6,9 +6,9 @@ use std::sync::OnceLock;
 
 use cases::case::Case;
 use cases::container::{lines, pack, unpack};
-use cases::{fixed, generate, seeded, stepped};
+use cases::{fixed, generate, seeded, stepped, tidied};
 use checker::calls::Lent;
-use checker::limits::RECORD;
+use checker::limits::{RECORD, TIDY_BYTES};
 
 /// Five thousand cases, made once for all tests.
 fn many() -> &'static [Case] {
@@ -158,6 +158,48 @@ fn the_vectors_are_up_to_date() {
 fn the_steps_are_up_to_date() {
     let cases = stepped::cases();
     assert_stored("steps_test", &cases, &stepped::printed(&cases));
+}
+
+/// `cases --texts crates/tidy_test` makes the two files again.
+#[test]
+fn the_tidy_texts_are_up_to_date() {
+    let cases = tidied::cases();
+    assert_stored("tidy_test", &cases, &tidied::printed(&cases));
+}
+
+#[test]
+fn tidy_texts_are_of_many_kinds() {
+    let cases = tidied::cases();
+    let (mut refused, mut tidy, mut forked, mut derived) = (0, 0, 0, 0);
+    let (mut full, mut unordered, mut most, mut lengths) = (0, 0, 0, Vec::new());
+    for case in &cases {
+        let lent = &mut Lent::zero();
+        if lent.load(&case.text).is_err() {
+            refused += 1;
+            continue;
+        }
+        lent.run(&case.records);
+        let mut out = vec![0; TIDY_BYTES];
+        let length = lent.write(&mut out).unwrap();
+        tidy += usize::from(case.text == out[..length]);
+        let counts = lent.counts;
+        forked += usize::from(counts.variables > counts.header_variables);
+        derived += usize::from(counts.steps > 0);
+        full += usize::from(counts.universals == 64);
+        most += usize::from(counts.header_variables == 512);
+        let kinds = lent.tables.kinds.iter().zip(&lent.tables.sets);
+        let bits = kinds.filter(|(&kind, _)| kind == 1).map(|(_, &set)| set);
+        unordered += usize::from(!bits.is_sorted());
+        lengths.push(length);
+    }
+    assert!((250..=400).contains(&cases.len()), "{}", cases.len());
+    assert!((10..40).contains(&refused) && tidy < 60, "{refused} {tidy}");
+    assert!(forked > 60 && derived > 120, "{forked} {derived}");
+    assert!(full > 8 && most > 15, "{full} {most}");
+    assert!(unordered > 80, "{unordered}");
+    let longer = |limit| lengths.iter().filter(|&&length| length > limit).count();
+    assert_eq!((longer(32_768), longer(65_535)), (2, 1));
+    assert!(tidied::printed(&cases).len() < 300_000);
 }
 
 #[test]

@@ -1,12 +1,13 @@
 //! Document 01, "The four lent tables" and the effects stated at the end of
-//! "Numbers of refusal": what each call does to the tables and the state that
-//! are lent to it.
+//! "Numbers of refusal", with Note 1 of document 02: what each call does to the
+//! tables, the state and the output that are lent to it.
 
 use std::ops::Range;
 
 use crate::refusal::{FormulaRefusal, Number};
 use crate::state::{Counts, State};
 use crate::tables::{export, Tables};
+use crate::tidy;
 use crate::verdict::Verdict;
 use crate::wellformed::rebuild;
 
@@ -90,5 +91,14 @@ impl Lent {
     pub fn variable(&self, number: u32) -> Result<(u8, usize), Number> {
         let (kind, universals) = self.state()?.ask_variable(number)?;
         Ok((kind as u8, universals))
+    }
+
+    /// Writes the tidy text to the front of the output: its length, or 1, 2, 30
+    /// with the output as it was. What lies behind the text stays.
+    pub fn write(&self, out: &mut [u8]) -> Result<usize, Number> {
+        let text = tidy::text(&self.state()?);
+        let front = out.get_mut(..text.len()).ok_or(Number::ShortOutput)?;
+        front.copy_from_slice(text.as_bytes());
+        Ok(text.len())
     }
 }

@@ -1,6 +1,6 @@
-//! Document 01, "The four lent tables", its last paragraph: the driver's calls
-//! over byte buffers, each table as its entries in little-endian bytes and the
-//! state as its eight counts of 16 bits.
+//! Document 01, "The four lent tables", its last paragraph, with Note 1 of
+//! document 02: the driver's calls over byte buffers, each table as its entries in
+//! little-endian bytes and the state as its eight counts of 16 bits.
 
 use crate::calls::Lent;
 use crate::limits;
@@ -93,5 +93,10 @@ impl Buffers {
     /// Kind and number of universals in the set of a variable, or 1, 2, 22.
     pub fn variable(&self, number: u32) -> Result<(u8, usize), Number> {
         self.lent()?.variable(number)
+    }
+
+    /// Writes the tidy text to the front of the output: its length, or 1, 2, 30.
+    pub fn write(&self, out: &mut [u8]) -> Result<usize, Number> {
+        self.lent()?.write(out)
     }
 }

@@ -1,6 +1,6 @@
 //! Reference checker for Fork-Resolution refutations of DQBF.
 //!
-//! Written from document 01 alone, over `Vec`, `BTreeSet` and `BTreeMap`. It is
+//! Written from documents 01 and 02 alone, over `Vec`, `BTreeSet` and `BTreeMap`. It is
 //! compared with the verified library, so it shares no code and no layout with
 //! it: dependency sets are sets of variable numbers, clauses are sets of
 //! literals, and the four lent tables appear only in [`tables`], [`wellformed`],
@@ -20,6 +20,7 @@ pub mod rules;
 pub mod state;
 pub mod tables;
 pub mod text;
+pub mod tidy;
 pub mod verdict;
 pub mod wellformed;
 

@@ -1,5 +1,6 @@
 //! Document 01, "The four lent tables", "Formula text" and "Numbers of
-//! refusal": the limits, each named once.
+//! refusal": the limits, each named once, and what they make of Note 1 of
+//! document 02.
 
 /// Bytes of a formula text.
 pub const TEXT_BYTES: usize = 32_768;
@@ -19,3 +20,6 @@ pub const LITERALS: usize = 8_192;
 pub const WIDTH: usize = 32;
 /// Digits of a number in a formula text.
 pub const DIGITS: usize = 5;
+/// Bytes of an output that is long enough for every tidy text; the longest has
+/// 163,495 (`tests/tidy.rs`).
+pub const TIDY_BYTES: usize = 163_840;

@@ -1,8 +1,9 @@
-//! The verdict's line, then each clause and each variable: what the driver in
-//! C++ of examples/driver.cpp prints.
+//! The verdict's line, then each clause and each variable, then the tidy text and
+//! its length: what the driver in C++ of examples/driver.cpp prints.
 
 use crate::clause::numbers_of;
 use crate::state::State;
+use crate::tidy;
 use crate::verdict::Verdict;
 
 /// All lines for a text and a list of records; one line for a refused formula.
@@ -20,5 +21,6 @@ pub fn listed(text: &[u8], records: &[u8]) -> String {
         let (kind, universals) = (variable.kind as u8, variable.set.len());
         lines += &format!("variable {number}: kind {kind}, universals {universals}\n");
     }
-    lines
+    let text = tidy::text(&state);
+    lines + &format!("text, {} bytes:\n{text}", text.len())
 }

@@ -1,4 +1,4 @@
-//! Document 01, "Numbers of refusal".
+//! Document 01, "Numbers of refusal", with Note 1 of document 02.
 
 /// Why a call, a line or a step is refused.
 #[derive(Clone, Copy, Debug, PartialEq, Eq, PartialOrd, Ord)]
@@ -37,6 +37,8 @@ pub enum Number {
     Masks = 28,
     /// One part's set contains the other's.
     Comparable = 29,
+    /// The output is lent shorter than the text.
+    ShortOutput = 30,
 }
 
 impl Number {

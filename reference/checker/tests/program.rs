@@ -1,12 +1,16 @@
-//! Document 01, "The line printed": the program `check`.
+//! Document 01, "The line printed", and Note 1 of document 02: the program `check`.
 
 use std::fs;
 use std::path::{Path, PathBuf};
 use std::process::Command;
 
 fn printed(folder: &Path) -> String {
+    printed_for(&[folder])
+}
+
+fn printed_for(arguments: &[&Path]) -> String {
     let program = Command::new(env!("CARGO_BIN_EXE_check"))
-        .arg(folder)
+        .args(arguments)
         .output();
     String::from_utf8(program.unwrap().stdout).unwrap()
 }
@@ -38,4 +42,23 @@ fn a_missing_file_counts_as_empty() {
     let no_formula = folder("no_formula", &[("steps.bin", EXAMPLE_STEPS)]);
     assert_eq!(printed(&no_formula), "formula 1 10\n");
     assert_eq!(printed(&no_formula.join("nowhere")), "formula 1 10\n");
+}
+
+#[test]
+fn a_tidy_text() {
+    let untidy: &[u8] = b"c x\np  cnf 3 1\na 2 0\ne 3 0\na 1 0\n3 -2 3 0\n";
+    let long = [untidy, &[b'x'; 32_768]].concat();
+    let files: [(&str, &[u8]); 4] = [
+        ("example", EXAMPLE),
+        ("untidy", untidy),
+        ("refused", b"p cnf 1 0\n1 0\n"),
+        ("long", &long),
+    ];
+    let folder = folder("tidy", &files);
+    let tidy = |name: &str| printed_for(&[Path::new("--tidy"), &folder.join(name)]);
+    assert_eq!(tidy("example").as_bytes(), EXAMPLE);
+    assert_eq!(tidy("untidy"), "p cnf 3 1\na 2 1 0\nd 3 1 2 0\n-2 3 0\n");
+    assert_eq!(tidy("refused"), "formula 2 12\n");
+    assert_eq!(tidy("long"), "formula 0 11\n");
+    assert_eq!(tidy("missing"), "formula 1 10\n");
 }

@@ -198,7 +198,7 @@ fn replay<L: Library>(file: &Path, mut library: L) -> io::Result<usize> {
         println!(
             "{}: {:?}",
             call.short(),
-            fields(oracle::answer(&mut wanted, call))
+            fields(oracle::answer(&mut wanted, call, &mut call.output()))
         );
     }
     match found {

@@ -15,9 +15,9 @@ use crate::scenario::{Call, Scenario};
 pub enum Difference {
     /// The answers, the right one first.
     Word(u64, u64),
-    /// A buffer and its first different byte.
+    /// A buffer or the output, and its first different byte.
     Byte(&'static str, usize, u8, u8),
-    /// A buffer or the input, and the guard byte that is changed.
+    /// A buffer, the input or the output, and the guard byte that is changed.
     Guard(&'static str, isize),
     /// The text or the records were written to.
     Input,
@@ -63,14 +63,16 @@ pub fn compare(scenario: &Scenario, library: &mut impl Library) -> Option<Found>
 
 /// The same with another checker that says what is right.
 pub fn compare_with(
-    right: impl Fn(&mut Buffers, &Call) -> u64,
+    right: impl Fn(&mut Buffers, &Call, &mut [u8]) -> u64,
     scenario: &Scenario,
     library: &mut impl Library,
 ) -> Option<Found> {
     let mut wanted = scenario.buffers.clone();
     let mut found = Five::new(&scenario.buffers);
     for (call, each) in scenario.calls.iter().enumerate() {
-        let difference = answers_differ(right(&mut wanted, each), each, &mut found, library)
+        let mut output = each.output();
+        let word = right(&mut wanted, each, &mut output);
+        let difference = answers_differ(word, &output, each, &mut found, library)
             .or_else(|| bytes_differ(&wanted, &found));
         if let Some(difference) = difference {
             return Some(Found { call, difference });
@@ -79,18 +81,21 @@ pub fn compare_with(
     None
 }
 
-/// Makes the call on the library; whether the answer is wrong, or a byte has
-/// changed that is not lent.
+/// Makes the call on the library; whether the answer or the output is wrong, or a
+/// byte has changed that is not lent.
 fn answers_differ(
     right: u64,
+    output: &[u8],
     call: &Call,
     buffers: &mut Five,
     library: &mut impl Library,
 ) -> Option<Difference> {
     let given = Guarded::new(call.input(), 1);
+    let mut written = Guarded::new(&call.output(), 2);
     let word = match call {
         Call::Load(_) => library.load(given.contents(), buffers.lent()),
         Call::Run(_) => library.run(given.contents(), buffers.lent()),
+        Call::Write(_) => library.write(written.contents_mut(), buffers.shared()),
         question => ask(library, buffers.shared(), question),
     };
     if right != word {
@@ -99,23 +104,26 @@ fn answers_differ(
     if given.contents() != call.input() {
         return Some(Difference::Input);
     }
-    let guards = NAMES.iter().zip(&buffers.0).chain([(&"input", &given)]);
+    let others = [(&"input", &given), (&"output", &written)];
+    let guards = NAMES.iter().zip(&buffers.0).chain(others);
     let mut broken = guards.filter_map(|(name, guarded)| Some((name, guarded.broken()?)));
+    let broken = broken.next();
     broken
-        .next()
         .map(|(name, place)| Difference::Guard(name, place))
+        .or_else(|| byte_differs("output", output, written.contents()))
 }
 
 fn bytes_differ(wanted: &Buffers, found: &Five) -> Option<Difference> {
-    for (name, (wanted, found)) in NAMES.iter().zip(wanted.0.iter().zip(&found.0)) {
-        if wanted == found.contents() {
-            continue;
-        }
-        let mut pairs = wanted.iter().zip(found.contents());
-        if let Some(place) = pairs.position(|(wanted, found)| wanted != found) {
-            let (wanted, found) = (wanted[place], found.contents()[place]);
-            return Some(Difference::Byte(name, place, wanted, found));
-        }
+    let mut pairs = NAMES.iter().zip(wanted.0.iter().zip(&found.0));
+    pairs.find_map(|(name, (wanted, found))| byte_differs(name, wanted, found.contents()))
+}
+
+/// The first byte that differs, of two stretches of one length.
+fn byte_differs(name: &'static str, wanted: &[u8], found: &[u8]) -> Option<Difference> {
+    if wanted == found {
+        return None;
     }
-    None
+    let mut pairs = wanted.iter().zip(found);
+    let place = pairs.position(|(wanted, found)| wanted != found)?;
+    Some(Difference::Byte(name, place, wanted[place], found[place]))
 }

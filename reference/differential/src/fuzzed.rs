@@ -1,7 +1,8 @@
 //! Scenarios from the bytes of a fuzzer.
 //!
 //! An input is a text, a 0 byte and records: the text is loaded and the records
-//! are run twice over used buffers, with questions between.
+//! are run twice over used buffers, with questions and writes between. A write's
+//! output is long enough, or of a length that the input's length tells.
 //!
 //! An input whose first byte is 128 or more, which begins no text, changes what
 //! is lent. Its three lowest bits choose a buffer that is lent short (5 to 7:
@@ -12,6 +13,7 @@
 //! changes.
 
 use checker::driver::Buffers;
+use checker::limits::TIDY_BYTES;
 
 use crate::library::{answer, Lean};
 use crate::scenario::{Call, Scenario};
@@ -34,17 +36,25 @@ fn used_buffers() -> Buffers {
     buffers
 }
 
+/// Bytes of an output for the text of a load: the two bytes of an existential on
+/// an `e` line can become 262.
+fn long_enough(input: &[u8]) -> usize {
+    TIDY_BYTES.min(131 * input.len() + 16)
+}
+
 fn loaded(input: &[u8]) -> Scenario {
     let (text, records) = parts(input);
     let number = (input.len() % 64) as u32;
     let calls = vec![
         Call::Load(text),
         Call::Variable(number),
+        Call::Write(input.len() % 256),
         Call::Run(records.clone()),
         Call::Show(number),
         Call::Run(records),
         Call::Clause(number),
         Call::Variable(number),
+        Call::Write(long_enough(input)),
     ];
     Scenario {
         label: "an input of the fuzzer".into(),
@@ -57,7 +67,7 @@ fn changed(short: u8, less: u8, changes: &[u8], input: &[u8]) -> Scenario {
     let (text, records) = parts(input);
     let mut buffers = Buffers::zero();
     for call in [Call::Load(text.clone()), Call::Run(records.clone())] {
-        answer(&mut Lean, &mut buffers, &call);
+        answer(&mut Lean, &mut buffers, &call, &mut []);
     }
     for change in changes.chunks_exact(4) {
         let buffer = &mut buffers.0[usize::from(change[0] % 5)];
@@ -72,8 +82,10 @@ fn changed(short: u8, less: u8, changes: &[u8], input: &[u8]) -> Scenario {
         Call::Show(number),
         Call::Clause(number),
         Call::Variable(number),
+        Call::Write(long_enough(input)),
         Call::Run(records.clone()),
         Call::Show(number + 1),
+        Call::Write(input.len() % 256),
         Call::Load(text),
         Call::Run(records),
     ];

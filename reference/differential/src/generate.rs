@@ -1,12 +1,15 @@
 //! Seeded scenarios: texts with records over used buffers, well-formed tables,
-//! nearly well-formed ones, noise, and buffers that are too short.
+//! nearly well-formed ones, noise, and buffers that are too short. In many of them
+//! tidy texts are written.
 
 use cases::case::Case;
 use cases::lent::{damaged, well_formed, LentCase};
 use cases::random::Random;
 use cases::seeded;
 use checker::driver::{Buffers, SIZES};
+use checker::limits::TIDY_BYTES;
 
+use crate::oracle;
 use crate::scenario::{Call, Scenario};
 
 /// The scenarios of a seed, the fixed cases first.
@@ -26,8 +29,19 @@ impl Scenarios {
         if let Some(case) = self.fixed.get(index as usize) {
             return Some(case.clone());
         }
-        let texts = Random::for_case(self.seed ^ 1, index).chance(60);
-        texts.then(|| seeded::case(self.seed, index))
+        if self.has_large_prefix(index) {
+            return Some(seeded::prefixed(self.seed, index));
+        }
+        (self.choice(index) < 60).then(|| seeded::case(self.seed, index))
+    }
+
+    /// What a seeded scenario is made from.
+    fn choice(&self, index: u64) -> usize {
+        Random::for_case(self.seed ^ 1, index).below(100)
+    }
+
+    fn has_large_prefix(&self, index: u64) -> bool {
+        matches!(self.choice(index), 60..=64)
     }
 
     pub fn scenario(&self, index: u64) -> Scenario {
@@ -35,6 +49,11 @@ impl Scenarios {
         let (label, buffers, calls) = match self.case(index) {
             Some(case) => text_and_records(case, random),
             None => tables(self.seed, index, random),
+        };
+        let calls = if self.has_large_prefix(index) || random.chance(40) {
+            with_writes(&buffers, calls, random)
+        } else {
+            calls
         };
         Scenario {
             label: format!("seed {} number {index}: {label}", self.seed),
@@ -106,6 +125,47 @@ fn tables(seed: u64, index: u64, random: &mut Random) -> Parts {
         ask(&mut calls, random);
     }
     (label.into(), buffers, calls)
+}
+
+/// Puts writes behind the last call and behind some others that change tables or
+/// refuse them. The last text is loaded again and written once more.
+fn with_writes(buffers: &Buffers, calls: Vec<Call>, random: &mut Random) -> Vec<Call> {
+    let mut buffers = buffers.clone();
+    let mut all = Vec::new();
+    let mut text = Vec::new();
+    let last = calls.len() - 1;
+    for (index, call) in calls.into_iter().enumerate() {
+        let changes = matches!(call, Call::Load(_) | Call::Run(_));
+        if changes {
+            oracle::answer(&mut buffers, &call, &mut []);
+        }
+        all.push(call);
+        if index == last || changes && random.chance(40) {
+            text = tidy_text(&buffers);
+            all.extend(writes(text.len(), random));
+        }
+    }
+    if !text.is_empty() {
+        all.extend([Call::Write(text.len()), Call::Load(text.clone())]);
+        all.push(Call::Write(text.len()));
+    }
+    all
+}
+
+/// The tidy text; nothing if the tables are refused.
+fn tidy_text(buffers: &Buffers) -> Vec<u8> {
+    let mut out = vec![0; TIDY_BYTES];
+    let length = buffers.write(&mut out).unwrap_or(0);
+    out.truncate(length);
+    out
+}
+
+/// Writes over outputs around a length.
+fn writes(length: usize, random: &mut Random) -> Vec<Call> {
+    let (below, more) = (random.below(length + 1), random.between(1, 70));
+    let around = [length, length + more, length.saturating_sub(1), below, 0];
+    let lengths = random.some(&around, 60);
+    lengths.into_iter().map(Call::Write).collect()
 }
 
 /// A few questions, mostly about numbers that are in use.

@@ -1,4 +1,4 @@
-//! The driver's five calls, as any library offers them.
+//! The driver's calls, as any library offers them.
 
 use checker::driver::Buffers;
 pub use lean::{Lent, Shared};
@@ -12,24 +12,31 @@ pub trait Library {
     fn show(&mut self, lent: Shared, clause: u32) -> u64;
     fn clause(&mut self, lent: Shared, clause: u32) -> u64;
     fn variable(&mut self, lent: Shared, variable: u32) -> u64;
+    fn write(&mut self, out: &mut [u8], lent: Shared) -> u64;
 }
 
-/// A call that only reads; 0 for another.
+/// A call that only reads and has no output; 0 for another.
 pub fn ask(library: &mut impl Library, lent: Shared, question: &Call) -> u64 {
     match *question {
         Call::Show(clause) => library.show(lent, clause),
         Call::Clause(clause) => library.clause(lent, clause),
         Call::Variable(variable) => library.variable(lent, variable),
-        Call::Load(_) | Call::Run(_) => 0,
+        Call::Load(_) | Call::Run(_) | Call::Write(_) => 0,
     }
 }
 
-/// Makes a call on buffers.
-pub fn answer(library: &mut impl Library, buffers: &mut Buffers, call: &Call) -> u64 {
+/// Makes a call on buffers and on an output, which only a write changes.
+pub fn answer(
+    library: &mut impl Library,
+    buffers: &mut Buffers,
+    call: &Call,
+    out: &mut [u8],
+) -> u64 {
     let lent = buffers.0.each_mut().map(Vec::as_mut_slice);
     match call {
         Call::Load(text) => library.load(text, lent),
         Call::Run(records) => library.run(records, lent),
+        Call::Write(_) => library.write(out, lent.map(|buffer| &*buffer)),
         question => ask(library, lent.map(|buffer| &*buffer), question),
     }
 }
@@ -57,5 +64,9 @@ impl Library for Lean {
 
     fn variable(&mut self, lent: Shared, variable: u32) -> u64 {
         lean::variable(lent, variable)
+    }
+
+    fn write(&mut self, out: &mut [u8], lent: Shared) -> u64 {
+        lean::write(out, lent)
     }
 }

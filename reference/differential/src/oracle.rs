@@ -16,8 +16,9 @@ fn number(number: Number) -> usize {
     number.value().into()
 }
 
-/// Makes the call on the buffers and gives its word.
-pub fn answer(buffers: &mut Buffers, call: &Call) -> u64 {
+/// Makes the call on the buffers and on an output, which only a write changes;
+/// gives its word.
+pub fn answer(buffers: &mut Buffers, call: &Call, out: &mut [u8]) -> u64 {
     match call {
         Call::Load(text) => match buffers.load(text) {
             Ok(()) => word(1, [0, 0]),
@@ -37,6 +38,7 @@ pub fn answer(buffers: &mut Buffers, call: &Call) -> u64 {
         &Call::Variable(variable) => asked(buffers.variable(variable), |(kind, universals)| {
             [kind.into(), universals]
         }),
+        Call::Write(_) => asked(buffers.write(out), |length| [length & 0xFFFF, length >> 16]),
     }
 }
 

@@ -3,7 +3,7 @@
 //!
 //! The file is text: a line with the label, five lines `buffer HEX` (literals,
 //! ends, sets, kinds, state), then a line for each call: `load HEX`, `run HEX`,
-//! `show N`, `clause N`, `variable N`.
+//! `show N`, `clause N`, `variable N`, `write N`.
 
 use checker::driver::Buffers;
 
@@ -14,6 +14,8 @@ pub enum Call {
     Show(u32),
     Clause(u32),
     Variable(u32),
+    /// The tidy text, over an output of so many bytes.
+    Write(usize),
 }
 
 #[derive(Clone, Debug, PartialEq, Eq)]
@@ -52,6 +54,7 @@ impl Call {
             Call::Show(clause) => format!("show {clause}"),
             Call::Clause(clause) => format!("clause {clause}"),
             Call::Variable(variable) => format!("variable {variable}"),
+            Call::Write(length) => format!("write {length}"),
         }
     }
 
@@ -63,15 +66,25 @@ impl Call {
             "show" => value.parse().ok().map(Call::Show),
             "clause" => value.parse().ok().map(Call::Clause),
             "variable" => value.parse().ok().map(Call::Variable),
+            "write" => value.parse().ok().map(Call::Write),
             _ => None,
         }
     }
 
-    /// The text or the records; nothing for a question.
+    /// The text or the records; nothing for another call.
     pub fn input(&self) -> &[u8] {
         match self {
             Call::Load(bytes) | Call::Run(bytes) => bytes,
             _ => &[],
+        }
+    }
+
+    /// The output of a write before the call, every byte marked; nothing for
+    /// another call.
+    pub fn output(&self) -> Vec<u8> {
+        match *self {
+            Call::Write(length) => (0..length).map(|place| place as u8 ^ 0xC3).collect(),
+            _ => Vec::new(),
         }
     }
 
@@ -122,6 +135,7 @@ mod tests {
                 Call::Show(u32::MAX),
                 Call::Clause(0),
                 Call::Variable(7),
+                Call::Write(70_000),
             ],
         };
         let file = scenario.to_file();

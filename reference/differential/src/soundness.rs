@@ -98,7 +98,7 @@ impl<L: Library> Judged<'_, L> {
     }
 
     fn answer(&mut self, call: &Call) -> u64 {
-        answer(self.library, &mut self.buffers, call)
+        answer(self.library, &mut self.buffers, call, &mut [])
     }
 
     /// Whether the text is accepted.

@@ -13,12 +13,27 @@ fn first_run(input: &[u8]) -> (u16, u16) {
     let scenario = scenario(input);
     let mut buffers = scenario.buffers;
     for call in &scenario.calls {
-        let [tag, _, second, _] = fields(oracle::answer(&mut buffers, call));
+        let [tag, _, second, _] = fields(oracle::answer(&mut buffers, call, &mut call.output()));
         if let Call::Run(_) = call {
             return (tag, second);
         }
     }
     unreachable!("every scenario has a run")
+}
+
+/// Case and first value of each write.
+fn writes(input: &[u8]) -> Vec<(u16, u16)> {
+    let scenario = scenario(input);
+    let mut buffers = scenario.buffers;
+    let mut found = Vec::new();
+    for call in &scenario.calls {
+        let word = oracle::answer(&mut buffers, call, &mut call.output());
+        let [tag, first, ..] = fields(word);
+        if let Call::Write(_) = call {
+            found.push((tag, first));
+        }
+    }
+    found
 }
 
 fn changed(front: &[u8]) -> Vec<u8> {
@@ -45,4 +60,26 @@ fn inputs_reach_what_is_lent() {
     for length in 0..whole.len() {
         first_run(&whole[..length]);
     }
+}
+
+#[test]
+fn inputs_reach_writes() {
+    assert_eq!(writes(REST), [(1, 36), (1, 36)]);
+    // An output of 35 bytes, a byte short.
+    assert_eq!(writes(&[REST, &[0; 254]].concat()), [(2, 30), (1, 36)]);
+    assert_eq!(writes(&changed(&[133, 0, 0])), [(1, 36), (1, 36)]);
+    assert_eq!(writes(&changed(&[128, 0, 0])), [(2, 1), (2, 1)]);
+    let universals = &changed(&[133, 0, 1, 4, 4, 0, 2]);
+    assert_eq!(writes(universals), [(2, 2), (2, 2)]);
+    // A long text of a short input.
+    let numbers = |range: std::ops::Range<u32>| -> String {
+        range.map(|number| format!("{number} ")).collect()
+    };
+    let text = format!(
+        "p cnf 99 0\na {}0\ne {}0\n",
+        numbers(36..100),
+        numbers(1..36)
+    );
+    let length = 11 + 196 + 35 * 196 + 9 * 2 + 26 * 3;
+    assert_eq!(writes(text.as_bytes()), [(2, 30), (1, length)]);
 }

@@ -22,6 +22,7 @@ fn outcome(call: &Call, word: u64) -> (&'static str, u16, u16) {
         Call::Show(_) => ("show", tag, u16::from(first > 0) + u16::from(second > 0)),
         Call::Clause(_) => ("clause", tag, if tag == 2 { first } else { 0 }),
         Call::Variable(_) => ("variable", tag, if tag == 2 { first } else { 0 }),
+        Call::Write(_) => ("write", tag, if tag == 2 { first } else { 0 }),
     }
 }
 
@@ -33,7 +34,8 @@ fn scenarios_reach_every_answer() {
         let scenario = scenarios.scenario(index);
         let mut buffers = scenario.buffers;
         for call in &scenario.calls {
-            found.insert(outcome(call, oracle::answer(&mut buffers, call)));
+            let word = oracle::answer(&mut buffers, call, &mut call.output());
+            found.insert(outcome(call, word));
         }
     }
     let mut wanted = BTreeSet::from([("load", 1, 0), ("run", 1, 0), ("run", 2, 0)]);
@@ -45,7 +47,49 @@ fn scenarios_reach_every_answer() {
         wanted.insert((call, 1, 0));
         wanted.extend([1, 2, unknown].map(|number| (call, 2, number)));
     }
+    wanted.insert(("write", 1, 0));
+    wanted.extend([1, 2, 30].map(|number| ("write", 2, number)));
     assert_eq!(found, wanted);
+}
+
+/// A tidy text that is loaded again makes the buffers that the load of its formula
+/// left, and is written once more. The outputs are just long enough, a byte short
+/// and longer; some texts have lengths above 16 bits.
+#[test]
+fn a_tidy_text_restores_the_formula() {
+    let scenarios = Scenarios::new(1);
+    let (mut restored, mut stepped, mut high, mut outputs) = (0, 0, 0, [0; 3]);
+    for index in 0..3_000 {
+        let scenario = scenarios.scenario(index);
+        let mut buffers = scenario.buffers;
+        let (mut loaded, mut ran, mut text) = (None, None, Vec::new());
+        for call in &scenario.calls {
+            let mut output = call.output();
+            let word = oracle::answer(&mut buffers, call, &mut output);
+            let [tag, low, more, _] = fields(word);
+            match call {
+                Call::Load(given) if tag == 1 && *given == text && loaded.is_some() => {
+                    assert_eq!(loaded.as_ref(), Some(&buffers), "{}", scenario.label);
+                    restored += 1;
+                    stepped += usize::from(loaded != ran);
+                }
+                Call::Load(_) => loaded = (tag == 1).then(|| buffers.clone()),
+                Call::Run(_) => ran = Some(buffers.clone()),
+                Call::Write(_) if tag == 1 => {
+                    let length = usize::from(low) + 65_536 * usize::from(more);
+                    high += usize::from(more > 0);
+                    outputs[usize::from(length < output.len())] += 1;
+                    text = output[..length].to_vec();
+                }
+                Call::Write(_) => outputs[2] += 1,
+                _ => (),
+            }
+        }
+    }
+    assert!(restored > 400 && stepped > 100, "{restored} {stepped}");
+    let [exact, longer, short] = outputs;
+    assert!(exact > 800 && longer > 400 && short > 800, "{outputs:?}");
+    assert!(high > 20, "{high}");
 }
 
 #[test]

@@ -57,6 +57,10 @@ impl Library for Wrong {
     fn variable(&mut self, lent: Shared, variable: u32) -> u64 {
         Lean.variable(lent, variable)
     }
+
+    fn write(&mut self, out: &mut [u8], lent: Shared) -> u64 {
+        Lean.write(out, lent)
+    }
 }
 
 /// Whether the search finds a formula that is true and refuted.

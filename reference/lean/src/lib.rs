@@ -1,4 +1,4 @@
-//! The driver's five calls over byte buffers, made to be fast: flat arrays, one
+//! The driver's calls over byte buffers, made to be fast: flat arrays, one
 //! pass over the tables, no allocation. It shares no code with `checker`.
 //!
 //! A call answers a word of four 16-bit fields, the lowest first: a tag, which is
@@ -11,6 +11,7 @@
 //! | show | place and length in entries; 0 and 0 where a question is refused | |
 //! | clause | length | 2, refused: number |
 //! | variable | kind, universals | 2, refused: number |
+//! | write | length of the text, its low and its high 16 bits | 2, refused: number |
 
 #![forbid(unsafe_code)]
 
@@ -18,6 +19,7 @@ mod formed;
 mod steps;
 mod tables;
 mod text;
+mod tidy;
 
 pub use tables::SIZES;
 
@@ -29,7 +31,7 @@ pub type Lent<'a> = [&'a mut [u8]; 5];
 pub type Shared<'a> = [&'a [u8]; 5];
 
 /// The number of the interface: KEFTHRUN_INTERFACE of include/kefthrun.h.
-pub const INTERFACE: u32 = 1;
+pub const INTERFACE: u32 = 2;
 
 /// The word of a tag and its values.
 fn word(tag: u64, first: u64, second: u64) -> u64 {
@@ -100,6 +102,16 @@ pub fn variable(lent: Shared, variable: u32) -> u64 {
     }
     let universals = tables.sets[index].count_ones();
     word(1, tables.kinds[index].into(), universals.into())
+}
+
+/// Writes the tidy text of the formula to the front of the output.
+pub fn write(out: &mut [u8], lent: Shared) -> u64 {
+    let mut tables = Tables::zero();
+    let outcome = tables.read(&lent).and_then(|()| tidy::write(&tables, out));
+    match outcome {
+        Ok(length) => word(1, length as u64 & 0xFFFF, length as u64 >> 16),
+        Err(number) => word(2, number, 0),
+    }
 }
 
 fn stretch(lent: Shared, clause: u32) -> Result<(usize, usize), u64> {

@@ -1,7 +1,7 @@
 -- DEMAND 3 in one piece (document 01, "The refutation statement"): one claim about the whole list of calls behind a load, of any length.
 --
 -- Tables of any length and contents are lent with any bytes to `load`, which accepts. Steps and runs with any bytes follow, each on tables and state as the
--- call before left them, refused calls included; questions, shown clauses and other calls that write nothing may stand between. If a run among them answers
+-- call before left them, refused calls included; questions, shown clauses, written formulas and other calls that write neither tables nor state may stand between. If a run among them answers
 -- Refuted, the text says a formula that no family makes true.
 --
 -- `loadOf`, `stepOf` and `runOf` are the outcomes that the contracts of `load`, `step` and `run` promise. Another load starts another list: `t` is any tables,

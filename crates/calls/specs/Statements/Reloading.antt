@@ -1,4 +1,4 @@
--- Any list of loads, steps, runs and calls that write nothing over the same tables, which may hold anything at first (document 01, "another load starts another
+-- Any list of loads, steps, runs and calls that write neither tables nor state over the same tables, which may hold anything at first (document 01, "another load starts another
 -- list"). A run's answer is about the text of the last load before it. If that load accepted and the run answers Refuted, the text says a formula that no
 -- family makes true.
 use mathlib.Core.Path.{_≡_}
@@ -18,7 +18,7 @@ use Rattle.steps.specs.Statements.Refutation.{Lent, Call, Answer, ran, next, an
 use Rattle.steps.specs.declared.RunAnswer.the-variants as RunAnswer
 use Rattle.calls.specs.Statements.Refutation.{loaded}
 
--- a load with any bytes; a step, a run, or a call that writes nothing
+-- a load with any bytes; a step, a run, or a call that writes neither tables nor state
 pub data AnyCall : Type 0 where
   loadCall : List ℕ → AnyCall
   laterCall : Call → AnyCall

@@ -3,12 +3,13 @@ use mathlib.Core.Bool.{false, _||_, true≢false}
 use mathlib.Core.List.{List, [], _∷_, _++_, append-assoc}
 use mathlib.Core.Logic.{_≢_}
 use mathlib.Core.Option.{Option, none, some}
-use mathlib.Core.Path.{_≡_, refl, sym}
-use Prim.Native.Nat.{ℕ, zero, suc, _+_, _≤_, _<_}
+use mathlib.Core.Path.{_≡_, refl, sym, _∙_, ap}
+use Prim.Native.Nat.{ℕ, zero, suc, _+_, _-_, _≤_, _<_}
 use native.Mathlib.Decide.{decLt}
 use native.Mathlib.Omega.{arith}
 use lib.Dec.{eqb, ltb, eqb·suc-zero}
-use lib.ListN.{length, replicate, length-append, List·getD-eq-default}
+use lib.ListN.{length, getD, replicate, length-append, List·getD-eq-default}
+use lib.Seq.{getD-append-add}
 use Rattle.dqbf.specs.Limits.{Room}
 use Rattle.dqbf.specs.Literal.{Clause, _∈_, total}
 use Rattle.dqbf.specs.Model.{Model, clauses, used, kindOf}
@@ -88,3 +89,21 @@ total-append (C ∷ Cs) Ds = let h = total-append Cs Ds in omega arith
 pub used-more : (m : Model) (a : Addition) → used (add m a) ≡ used m + length (a .forks)
 unfolding used add
 used-more m a = let h = length-append (m .forks) (a .forks) in omega arith
+
+-- a universal is among the variables 1 to V: the numbers above are forks'
+three-or-none : (f j : ℕ) → _≢_ {A = ℕ} (getD (replicate f 3) j 0) 1
+three-or-none zero j e = omega arith
+three-or-none (suc f) zero e = omega arith
+three-or-none (suc f) (suc j) e = three-or-none f j e
+
+pub universal-low : (m : Model) (x : ℕ) → kindOf m x ≡ 1 → x ≤ length (m .kinds)
+unfolding kindOf
+universal-low m zero e = omega arith
+universal-low m (suc i) e = go (decLt i (length (m .kinds)))
+  where
+    go : Dec (i < length (m .kinds)) → suc i ≤ length (m .kinds)
+    go (yes h) = h
+    go (no h) =
+        let q : length (m .kinds) + (i - length (m .kinds)) ≡ i = omega arith in
+        absurd (three-or-none (length (m .forks)) (i - length (m .kinds))
+        (sym (getD-append-add (m .kinds) (replicate (length (m .forks)) 3) (i - length (m .kinds)) 0) ∙ ap (λ (k : ℕ). getD (m .kinds ++ replicate (length (m .forks)) 3) k 0) q ∙ e))

@@ -2,10 +2,10 @@
 use mathlib.Core.Path.{_≡_, refl}
 use mathlib.Core.Logic.{_⊎_, inl, inr, _≢_}
 use mathlib.Core.Bool.{Bool, true, false, not, _&&_, _||_, false≢true, true≢false, and-eq-true-iff}
-use mathlib.Core.List.{List, _∷_}
+use mathlib.Core.List.{List, [], _∷_, _++_}
 use Prim.Native.Nat.{ℕ, _≤_, _<_}
 use lib.Dec.{eqb, T, leb, ltb, leb→le, ltb→lt, nltb→le, eqb→eq, eqb-refl}
-use mathlib.Core.Option.{none}
+use mathlib.Core.Option.{none, some}
 use native.Mathlib.Omega.{arith}
 use Rattle.dqbf.specs.Refusal.{Refusal, Test, _when_}
 use Rattle.dqbf.specs.Refusal as Refusal
@@ -94,3 +94,17 @@ never false h = refl
 
 pub ltb-not : (a b : ℕ) → b ≤ a → ltb a b ≡ false
 ltb-not a b h = never (ltb a b) (λ t. let u = ltb-yes a b t in omega arith)
+
+-- ---- two lists of refusal tests, one behind the other
+
+pub first-some : (ts us : List Test) (x : Refusal) → Refusal.first ts ≡ some x → Refusal.first (ts ++ us) ≡ some x
+unfolding Refusal.first
+first-some [] us x h = absurd (let z : _≡_ {A = ℕ} 0 1 = cc in omega arith)
+first-some ((y when true) ∷ ts) us x h = h
+first-some ((y when false) ∷ ts) us x h = first-some ts us x h
+
+pub first-none : (ts us : List Test) → Refusal.first ts ≡ none → Refusal.first (ts ++ us) ≡ Refusal.first us
+unfolding Refusal.first
+first-none [] us h = refl
+first-none ((y when true) ∷ ts) us h = absurd (let z : _≡_ {A = ℕ} 0 1 = cc in omega arith)
+first-none ((y when false) ∷ ts) us h = first-none ts us h

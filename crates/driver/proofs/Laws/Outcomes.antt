@@ -13,13 +13,14 @@ use Rattle.tables.specs.declared.State.{State}
 use Rattle.questions.specs.Answers.{lengthAnswer, variableAnswer}
 use Rattle.dqdimacs.specs.Loading.{loadOf}
 use Rattle.steps.specs.Steps.{runOf}
+use Rattle.formula_text.specs.Writing.{writeOf}
 use Rattle.codec.specs.Bytes.{entries, literalsIn, over}
 use Rattle.codec.specs.State as Codec
 use Rattle.buffers.specs.Buffers.{Buffers, buffersOf, stateWhole, whole, tablesIn, stateIn}
-use Rattle.results.specs.Results.{packed, loadResult, runResult, clauseResult, showResult, stretchResult, variableResult}
+use Rattle.results.specs.Results.{packed, loadResult, runResult, clauseResult, showResult, stretchResult, variableResult, writeResult}
 use Rattle.buffers.proofs.Laws.{Sizes, whole-sizes}
 use Rattle.results.proofs.Laws.{stretch-shown}
-use Rattle.exports.specs.Calls.{After, loaded, loadShort, loadBytes, ran, runShort, runBytes, showBytes, clauseBytes, variableBytes}
+use Rattle.exports.specs.Calls.{After, loaded, loadShort, loadBytes, ran, runShort, runBytes, showBytes, clauseBytes, variableBytes, AfterWriteBytes, wrote, writeShort, writeBytes}
 
 not-true : (b : Bool) → not b ≡ true → b ≡ false
 not-true true h = sym h
@@ -55,6 +56,17 @@ module _ (b : Buffers) (text : List ℕ) {a : Bool} (told : a ≡ whole b) where
   pub load-on : not a ≡ false → {x : After} → x ≡ loaded b (loadOf (tablesIn b) text) → x ≡ loadBytes b text
   unfolding loadBytes
   load-on h e = e ∙ rw (← told, not-false a h)
+
+-- ---- a written formula
+
+module _ (b : Buffers) (out : List ℕ) {a : Bool} (told : a ≡ whole b) where
+  pub write-short : {r : ℕ} → not a ≡ true → r ≡ packed 2 1 0 → _≡_ {A = AfterWriteBytes} (record { output = out; result = r }) (writeBytes b out)
+  unfolding writeBytes writeShort writeResult
+  write-short h e = rw (← told, not-true a h, e)
+
+  pub write-on : not a ≡ false → {x : AfterWriteBytes} → x ≡ wrote (writeOf (tablesIn b) (stateIn b) out) → x ≡ writeBytes b out
+  unfolding writeBytes
+  write-on h e = e ∙ rw (← told, not-false a h)
 
 -- ---- calls that write nothing
 

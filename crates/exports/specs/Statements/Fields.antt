@@ -1,9 +1,13 @@
 -- The fields of a result are the case and the values of the answer, and nothing is cut off: each value fits its 16 bits. The case is never 0.
+-- The length of a written text has two fields, which together are the length.
 use mathlib.Core.Path.{_≡_}
 use mathlib.Core.Bool.{true}
 use mathlib.Core.List.{List, [], _∷_}
-use Prim.Native.Nat.{ℕ}
+use Prim.Native.Nat.{ℕ, _+_, _*_, _/_, _%_}
+use lib.ListN.{length}
 use Rattle.dqbf.specs.Questions.{ClauseAnswer, clauseLength, noClause, VariableAnswer, variable, noVariable}
+use Rattle.dqbf.specs.Spelled.{spelled}
+use Rattle.tables.specs.Tables.{modelIn}
 use Rattle.questions.specs.Answers.{lengthAnswer, variableAnswer}
 use Rattle.dqdimacs.specs.Loading.{loadOf}
 use Rattle.dqdimacs.specs.declared.LoadAnswer.{LoadAnswer}
@@ -11,9 +15,10 @@ use Rattle.dqdimacs.specs.declared.LoadAnswer.the-variants as Load
 use Rattle.steps.specs.Steps.{runOf}
 use Rattle.steps.specs.declared.RunAnswer.{RunAnswer}
 use Rattle.steps.specs.declared.RunAnswer.the-variants as Run
+use Rattle.formula_text.specs.Writing.{TextAnswer, textLength, noText, writeOf}
 use Rattle.buffers.specs.Buffers.{Buffers, whole, tablesIn, stateIn}
 use Rattle.results.specs.Results.{field}
-use Rattle.exports.specs.Calls.{loadBytes, runBytes, clauseBytes, variableBytes}
+use Rattle.exports.specs.Calls.{loadBytes, runBytes, clauseBytes, variableBytes, writeBytes}
 
 unfoldable pub fields : ℕ → List ℕ
 fields r = field 0 r ∷ field 1 r ∷ field 2 r ∷ []
@@ -35,6 +40,10 @@ unfoldable pub variableFields : VariableAnswer → List ℕ
 variableFields (variable kind universals) = 1 ∷ kind ∷ universals ∷ []
 variableFields (noVariable r) = 2 ∷ r .number ∷ 0 ∷ []
 
+unfoldable pub writeFields : TextAnswer → List ℕ
+writeFields (textLength n) = 1 ∷ n % 65536 ∷ n / 65536 ∷ []
+writeFields (noText r) = 2 ∷ r .number ∷ 0 ∷ []
+
 abbrev pub LoadTells : Type 0
 LoadTells = (b : Buffers) (text : List ℕ) → whole b ≡ true → fields (loadBytes b text .result) ≡ loadFields (loadOf (tablesIn b) text .answer)
 
@@ -47,3 +56,12 @@ ClauseTells = (b : Buffers) (c : ℕ) → whole b ≡ true → fields (clauseByt
 
 abbrev pub VariableTells : Type 0
 VariableTells = (b : Buffers) (x : ℕ) → whole b ≡ true → fields (variableBytes b x) ≡ variableFields (variableAnswer (tablesIn b) (stateIn b) x)
+
+abbrev pub WriteTells : Type 0
+WriteTells = (b : Buffers) (out : List ℕ) → whole b ≡ true → fields (writeBytes b out .result) ≡ writeFields (writeOf (tablesIn b) (stateIn b) out .answer)
+
+-- a result that tells a written text has the length of that text
+abbrev pub WriteTellsLength : Type 0
+WriteTellsLength =
+    (b : Buffers) (out : List ℕ) → let r = writeBytes b out .result in
+    field 0 r ≡ 1 → field 1 r + 65536 * field 2 r ≡ length (spelled (modelIn (tablesIn b) (stateIn b)))

@@ -6,13 +6,13 @@
 use mathlib.Core.Path.{_≡_, refl, ap, _∙_}
 use mathlib.Core.Bool.{true}
 use mathlib.Core.List.{List, [], _∷_, _++_, append-assoc}
-use Prim.Native.Nat.{ℕ, suc, _+_, _-_, _≤_}
+use Prim.Native.Nat.{ℕ, zero, suc, _+_, _-_, _≤_}
 use native.Mathlib.Nat.{add-zero, sub-self, add-assoc}
 use native.Mathlib.Omega.{arith}
 use borrow.Author.Tests.{leb-true, eqb-true, le-leb, eq-eqb}
 use lib.Dec.{leb}
 use lib.IntN.{ℤ}
-use lib.ListN.{length, drop, length-append, length-drop}
+use lib.ListN.{length, take, drop, length-append, length-drop}
 use lib.Seq.{take-add, drop-drop, take-at, drop-at, length-take-le}
 use Rattle.dqbf.specs.Literal.{Clause, total}
 use Rattle.dqbf.proofs.Laws.Tests.{and-left, and-right, both}
@@ -103,3 +103,9 @@ cut-flat x (C ∷ Cs) y from e =
     rw (a, append-assoc C (flat Cs) y, ← append-assoc x C (flat Cs ++ y)) (ap {B = List Clause} (λ r. C ∷ r) (cut-flat (x ++ C) Cs y (from + length C) b))
 
 -- ---- the clause with a number: it starts where the one before it ends
+
+pub take-cut : (k from : ℕ) (ends : List ℕ) (l : List ℤ) → take k (cut from ends l) ≡ cut from (take k ends) l
+unfolding cut
+take-cut zero from ends l = refl
+take-cut (suc k) from [] l = refl
+take-cut (suc k) from (end ∷ ends) l = ap (stretch from end l ∷_) (take-cut k end ends l)

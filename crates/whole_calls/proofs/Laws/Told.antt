@@ -1,5 +1,5 @@
--- What a load and a run over decoded tables leave in the buffers.
--- Offers `run-told`, `load-told`.
+-- What a load and a run over decoded tables leave in the buffers, and what a formula written from them leaves in the output.
+-- Offers `run-told`, `load-told`, `write-told`.
 use mathlib.Core.Path.{_≡_, _∙_, ap}
 use mathlib.Core.List.{List}
 use Prim.Native.Nat.{ℕ, _≤_}
@@ -17,14 +17,15 @@ use Rattle.dqdimacs.specs.Loading.{AfterLoad, loadedOn, loadOf}
 use Rattle.dqdimacs.specs.declared.Loaded.{Loaded}
 use Rattle.steps.specs.Steps.{AfterRun, runOf}
 use Rattle.steps.specs.declared.Ran.{Ran}
+use Rattle.formula_text.specs.Writing.{TextAnswer, AfterWrite, writeOf}
 use Rattle.codec.specs.Bytes.{entries, bytesOf, literalsIn, literalBytes, over}
 use Rattle.codec.specs.State.{stateBytes}
 use Rattle.codec.specs.State as Codec
 use Rattle.codec.proofs.Laws.Bytes.{entries-length}
 use Rattle.codec.proofs.Laws.Turns.{literals-length}
 use Rattle.buffers.specs.Buffers.{Buffers, buffersOf, tablesIn, stateIn, written}
-use Rattle.results.specs.Results.{loadResult, runResult}
-use Rattle.exports.specs.Calls.{After, loaded, ran}
+use Rattle.results.specs.Results.{loadResult, runResult, writeResult}
+use Rattle.exports.specs.Calls.{After, loaded, ran, AfterWriteBytes, wrote}
 
 -- what a run over decoded tables leaves
 module _ (b : Buffers) (records : List ℕ) where
@@ -69,3 +70,12 @@ module _ (b : Buffers) (text : List ℕ) (kinds-room : 512 ≤ length (b .kinds)
       let same = load-unread (b .kinds) text kinds-room l (literalsIn literalLimit (b .literals)) e (entries 2 clauseLimit (b .ends)) w (entries 8 variableLimit (b .sets))
       p (literals-length literalLimit (b .literals)) q (entries-length 2 clauseLimit (b .ends)) u (entries-length 8 variableLimit (b .sets)) in
       rw (lw, ew, sw, tw, nw) (ap (loaded b) (told ∙ same))
+
+-- what a formula written from decoded tables leaves
+module _ (b : Buffers) (out : List ℕ) where
+  pub write-told : {l : List ℤ} {e w : List ℕ} {s : State} → l ≡ literalsIn literalLimit (b .literals) → e ≡ entries 2 clauseLimit (b .ends) → w ≡ entries 8 variableLimit (b .sets)
+      → s ≡ Codec.stateIn (b .state) → {a : TextAnswer} {output : List ℕ}
+      → _≡_ {A = AfterWrite} (record { answer = a; output = output }) (writeOf (tablesOf l e w (b .kinds)) s out) → {n : ℕ} → n ≡ writeResult a
+      → _≡_ {A = AfterWriteBytes} (record { output = output; result = n }) (wrote (writeOf (tablesIn b) (stateIn b) out))
+  unfolding tablesIn stateIn wrote
+  write-told p q u v told nw = rw nw (ap wrote (rw (p, q, u, v) at told))

@@ -5,7 +5,7 @@ use native.Mathlib.Omega.{arith}
 use borrow.Author.Needs.{needs}
 use lib.ListN.{length}
 use Rattle.dqbf.specs.Line.{digitsOf}
-use Rattle.lines.proofs.Laws.Digits.{length-one, length-more}
+use Rattle.dqbf.proofs.Laws.Digits.{length-one, length-more}
 use Rattle.lines.proofs.digits.digit_count.Statement.{statement}
 use Rattle.lines.proofs.digits.digit_count.Tie as tie
 use Rattle.lines.proofs.digits.digit_count.Reads as reads
