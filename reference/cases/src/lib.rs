@@ -9,6 +9,7 @@ pub mod damage;
 pub mod draft;
 pub mod formulas;
 pub mod lent;
+pub mod numbered;
 pub mod packed;
 pub mod prover;
 pub mod published;

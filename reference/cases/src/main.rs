@@ -2,7 +2,8 @@
 //! `--lines FILE` writes cases; `--only PREFIX` keeps those whose label begins so.
 //! `cases --vectors DIR` writes the data and the stdout of the program `vectors`,
 //! `cases --steps DIR` those of the program `steps_test`, `cases --texts DIR` those
-//! of the program `tidy_test`.
+//! of the program `tidy_test`, `cases --numbers DIR` those of the program
+//! `lines_test`.
 
 #![forbid(unsafe_code)]
 
@@ -12,11 +13,11 @@ use std::path::{Path, PathBuf};
 use std::process::ExitCode;
 
 use cases::case::Case;
-use cases::{container, generate, packed, stepped, tidied, vectors};
+use cases::{container, generate, numbered, packed, stepped, tidied, vectors};
 
 const USAGE: &str = "usage: cases [--seed S] [--count N] [--only PREFIX] \
     [--out FILE] [--dir DIR] [--joined DIR] [--lines FILE] \
-    [--vectors DIR] [--steps DIR] [--texts DIR]";
+    [--vectors DIR] [--steps DIR] [--texts DIR] [--numbers DIR]";
 
 #[derive(Default)]
 struct Options {
@@ -30,6 +31,7 @@ struct Options {
     vectors: Option<PathBuf>,
     steps: Option<PathBuf>,
     texts: Option<PathBuf>,
+    numbers: Option<PathBuf>,
 }
 
 fn options() -> Option<Options> {
@@ -48,18 +50,24 @@ fn options() -> Option<Options> {
             "--vectors" => options.vectors = Some(value.into()),
             "--steps" => options.steps = Some(value.into()),
             "--texts" => options.texts = Some(value.into()),
+            "--numbers" => options.numbers = Some(value.into()),
             _ => return None,
         }
     }
     Some(options)
 }
 
-/// The cases of a program of the library, as it has them in its folder, and
-/// what it prints.
-fn write_program(folder: &Path, cases: &[Case], printed: String) -> io::Result<usize> {
+/// The data of a program of the library, as it has them in its folder, and what it
+/// prints.
+fn write_data(folder: &Path, name: &str, data: Vec<u8>, printed: String) -> io::Result<()> {
     fs::create_dir_all(folder.join("data"))?;
-    fs::write(folder.join("data/cases.bin"), packed::pack(cases))?;
-    fs::write(folder.join("stdout"), printed)?;
+    fs::write(folder.join("data").join(name), data)?;
+    fs::write(folder.join("stdout"), printed)
+}
+
+/// The same for a program that reads packed cases.
+fn write_program(folder: &Path, cases: &[Case], printed: String) -> io::Result<usize> {
+    write_data(folder, "cases.bin", packed::pack(cases), printed)?;
     Ok(cases.len())
 }
 
@@ -75,6 +83,15 @@ fn write(options: &Options) -> io::Result<usize> {
     if let Some(folder) = options.texts.as_deref() {
         let cases = tidied::cases();
         return write_program(folder, &cases, tidied::printed(&cases));
+    }
+    if let Some(folder) = options.numbers.as_deref() {
+        write_data(
+            folder,
+            "numbers.bin",
+            numbered::bytes(),
+            numbered::printed(),
+        )?;
+        return Ok(numbered::numbers().len());
     }
     let mut cases = generate(options.seed, options.count);
     cases.retain(|case| case.label.starts_with(&options.only));

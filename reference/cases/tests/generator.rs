@@ -6,7 +6,7 @@ use std::sync::OnceLock;
 
 use cases::case::Case;
 use cases::container::{lines, pack, unpack};
-use cases::{fixed, generate, seeded, stepped, tidied};
+use cases::{fixed, generate, numbered, seeded, stepped, tidied};
 use checker::calls::Lent;
 use checker::limits::{RECORD, TIDY_BYTES};
 
@@ -138,12 +138,17 @@ fn no_step_applies_to_theorem_2() {
     assert!(steps.iter().all(|case| case.expected.starts_with("bad 1 ")));
 }
 
-/// The stored cases of a program of the library, and what it must print.
-fn assert_stored(program: &str, cases: &[Case], printed: &str) {
+/// The stored data of a program of the library, and what it must print.
+fn assert_data(program: &str, name: &str, data: &[u8], printed: &str) {
     let folder = format!("{}/../../crates/{program}", env!("CARGO_MANIFEST_DIR"));
     let read = |name: &str| std::fs::read(format!("{folder}/{name}")).expect(name);
-    assert!(read("data/cases.bin") == cases::packed::pack(cases));
+    assert!(read(&format!("data/{name}")) == data);
     assert!(read("stdout") == printed.as_bytes());
+}
+
+/// The same for a program that reads packed cases.
+fn assert_stored(program: &str, cases: &[Case], printed: &str) {
+    assert_data(program, "cases.bin", &cases::packed::pack(cases), printed);
 }
 
 /// `cases --vectors crates/vectors` makes the two files again.
@@ -165,6 +170,30 @@ fn the_steps_are_up_to_date() {
 fn the_tidy_texts_are_up_to_date() {
     let cases = tidied::cases();
     assert_stored("tidy_test", &cases, &tidied::printed(&cases));
+}
+
+/// `cases --numbers crates/lines_test` makes the two files again.
+#[test]
+fn the_numbers_are_up_to_date() {
+    let data = numbered::bytes();
+    assert_data("lines_test", "numbers.bin", &data, &numbered::printed());
+}
+
+#[test]
+fn numbers_have_every_digit_at_every_place() {
+    let numbers = numbered::numbers();
+    assert!((700..900).contains(&numbers.len()), "{}", numbers.len());
+    for border in [0, 9, 10, 999_999_999, 1_000_000_000, u32::MAX] {
+        assert!(numbers.contains(&border), "{border}");
+    }
+    for place in 0..9 {
+        let power = 10_u32.pow(place);
+        for digit in 0..10 {
+            let long = numbers.iter().filter(|&&number| number >= 10 * power);
+            let same = long.filter(|&&number| number / power % 10 == digit);
+            assert!(same.count() >= 2, "{digit} at {place}");
+        }
+    }
 }
 
 #[test]
