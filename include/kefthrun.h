@@ -12,14 +12,14 @@
  * is changed then, except that a load zeroes a state of 16 bytes or more. An output shorter than its text is refusal 30.
  *
  * Stack. No call uses the heap or recursion. A load was measured to use 91,856 bytes of stack, a run 26,032, a question or a shown clause 25,728, a write
- * 26,072 (docs/PERFORMANCE.md): give a thread at least 128 KB of stack. */
+ * 26,096 (docs/PERFORMANCE.md): give a thread at least 128 KB of stack. */
 #ifndef KEFTHRUN_H
 #define KEFTHRUN_H
 
 #include <stddef.h>
 #include <stdint.h>
 
-/* The number of this interface: one higher with each change of a function, a buffer's size or a result. */
+/* The number of this interface: one higher with each change of a function, a buffer's size or the fields of a result. */
 #define KEFTHRUN_INTERFACE 2u
 
 /* Sizes of the buffers, in bytes. */

@@ -144,7 +144,8 @@ static std::string numbers(unsigned first, unsigned last) {
 static void texts() {
     Buffers b;
     expect("an untidy text", b.load("c x\np  cnf 5 3\na 4 0\ne 2 0\nd 5 4 4 0\na 3 1 0\n2  -5 2 0\n0\n-4 -2 0\n") == packed(1, 0, 0));
-    const std::string tidy = "p cnf 5 3\na 4 3 1 0\nd 2 1 3 4 0\nd 5 4 0\n2 -5 0\n0\n-2 -4 0\n";
+    expect("its e line sees the universal before it", b.ask(kefthrun_variable, 2) == packed(1, 2, 1));
+    const std::string tidy = "p cnf 5 3\na 4 3 1 0\nd 2 4 0\nd 5 4 0\n2 -5 0\n0\n-2 -4 0\n";
     written(b, tidy);
     expect("the text is loaded again", b.load(tidy) == packed(1, 0, 0));
     written(b, tidy);

@@ -8,6 +8,7 @@ pub mod Clauses
 pub mod Order
 pub mod Masks
 pub mod Words
+pub mod Containment
 pub mod Digits
 pub mod Counting
 pub mod Models

@@ -27,6 +27,8 @@ cases =
     }
     -- an `e` line becomes `d` lines
     ∷ record { given = "p cnf 12 1\na 11 12 0\ne 10 9 0\n-12 10 0\n"; tidy = "p cnf 12 1\na 11 12 0\nd 9 11 12 0\nd 10 11 12 0\n10 -12 0\n" }
+    -- each with the universals before it (Note 3)
+    ∷ record { given = "p cnf 5 2\na 4 0\ne 2 0\nd 5 4 4 0\na 3 1 0\n2  -5 2 0\n0\n"; tidy = "p cnf 5 2\na 4 3 1 0\nd 2 4 0\nd 5 4 0\n2 -5 0\n0\n" }
     ∷ []
 
 -- a fork variable and the clauses of its fork do not appear

@@ -8,3 +8,4 @@ pub mod SetSize
 pub mod ReadsBack
 pub mod Exact
 pub mod MarkedCases
+pub mod ELines

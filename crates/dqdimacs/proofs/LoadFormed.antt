@@ -6,7 +6,7 @@ use Prim.Native.Nat.{ℕ}
 use native.Mathlib.Omega.{arith}
 use lib.ListN.{length}
 use Rattle.dqbf.specs.Formula.{Formula}
-use Rattle.dqbf.specs.Model.{Model, modelOf, used, steps}
+use Rattle.dqbf.specs.Model.{Model, modelBy, modelOf, used, steps}
 use Rattle.dqbf.specs.Reading.{load, accepted, refused}
 use Rattle.dqbf.specs.Reading as Reading
 use Rattle.dqbf.proofs.LoadValid.{load-valid}
@@ -50,15 +50,15 @@ accepted-exactly t text = (accepted-by t (long t) (load text), λ h. accepts-by 
 -- ---- an accepted load
 
 bound-is : (φ : Formula) → length (modelOf φ .kinds) ≡ φ .bound
-unfolding modelOf
+unfolding modelBy
 bound-is φ = row-length _ (φ .bound)
 
 used-is : (φ : Formula) → used (modelOf φ) ≡ φ .bound
-unfolding used modelOf
+unfolding used modelBy
 used-is φ = omega (arith, bound-is φ)
 
 none-made : (φ : Formula) → steps (modelOf φ) ≡ 0
-unfolding steps modelOf
+unfolding steps modelBy
 none-made φ = refl
 
 model-holds : (t : Tables) (text : List ℕ) (φ : Formula) → long t ≡ true → load text ≡ accepted φ → Holding φ (loadedOn t (accepted φ))

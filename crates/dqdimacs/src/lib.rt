@@ -24,8 +24,6 @@ pub struct Loaded {
     pub answer: LoadAnswer,
 }
 
-pub mod finishing;
-
 // A refused text leaves a zero state.
 fn refused(line: u32, number: u32) -> Loaded
     ensures { λ r. ⌜ r ≡ record { state = zeroState; answer = Refused line number } ⌝ }
@@ -60,8 +58,6 @@ pub fn load(
     }
     let progress = read.progress;
     let state = progress.state;
-    let bound = state.bound;
-    finishing::finish(progress.places, bound.0 as usize, sets, kinds);
     let answer = LoadAnswer::Accepted;
     Loaded { state, answer }
 }

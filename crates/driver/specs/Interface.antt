@@ -1,4 +1,4 @@
--- The number of the interface: one higher with each change of a function, a buffer's size or a result. KEFTHRUN_INTERFACE of include/kefthrun.h is the same.
+-- The number of the interface: one higher with each change of a function, a buffer's size or the fields of a result. KEFTHRUN_INTERFACE of include/kefthrun.h is the same.
 -- (What the calls leave and return is specs/Calls.antt of the crate `exports`.)
 use Prim.Native.Nat.{ℕ}
 

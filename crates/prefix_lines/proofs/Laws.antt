@@ -1,8 +1,7 @@
 -- Laws of lines read into tables
 pub mod Rows
-pub mod Pending
+pub mod Variables
 pub mod Models
-pub mod Finishing
 pub mod Reading
 pub mod Fresh
 pub mod Declaring

@@ -1,3 +1,2 @@
-pub mod Pending
 pub mod Lines
 pub mod Rows

@@ -15,7 +15,7 @@ use Rattle.dqbf.specs.Limits.{variableLimit, universalLimit, clauseLimit, liter
 use Rattle.dqbf.specs.Refusal.{Refusal, refusal, first}
 use Rattle.dqbf.specs.Set.{Set, union}
 use Rattle.dqbf.specs.Formula.{Declaration, onA, onE, universals, declared}
-use Rattle.dqbf.specs.Model.{wordOf}
+use Rattle.dqbf.specs.Model.{wordOf, modelOf}
 use Rattle.dqbf.specs.Reading.{Form, Phase, opening, prefixLines, clauseLines, Reader, start, fresh, lineTests, declaring, taken}
 use Rattle.dqbf.proofs.Reading.Lines.{Sane}
 use Rattle.ranks.specs.Order.{allInserted}
@@ -23,7 +23,6 @@ use Rattle.tables.specs.Tables.{Tables}
 use Rattle.tables.specs.Spread.{spread, stateOf, blank}
 use Rattle.tables.specs.WellFormed.{long}
 use Rattle.tables.specs.Adding.{clauseEnded, formulaCounted}
-use Rattle.prefix_lines.specs.Pending.{pending}
 use Rattle.prefix_lines.specs.declared.progress.Progress.{Progress}
 use Rattle.prefix_lines.specs.declared.progress.LineAnswer.{LineAnswer}
 
@@ -37,7 +36,7 @@ progressOf r = record {
   phase = phaseNumber (r .phase);
   count = r .count;
   places = wordOf (universals (r .formula)) (universals (r .formula));
-  state = stateOf (pending (r .formula));
+  state = stateOf (modelOf (r .formula));
 }
 
 unfoldable pub refusalOf : ℕ → Option Refusal
@@ -51,7 +50,7 @@ pub record ReadSoFar (t : Tables) (r : Reader) (p : Progress) (now : Tables) : T
   pub opened : r .phase ≡ opening → r ≡ start
   pub few : length (r .formula .clauses) ≤ r .count
   pub progress : p ≡ progressOf r
-  pub tables : now ≡ spread (pending (r .formula)) t
+  pub tables : now ≡ spread (modelOf (r .formula)) t
 
 -- The front of `known` has the different numbers on the `a` lines so far, in ascending order.
 abbrev pub Known : Reader → List ℕ → Type 0

@@ -2,17 +2,15 @@
 --     declarable, Declared           one variable declared
 --     isUniversal, isDeclared        the kind of a variable, or of the variable of a rank
 --     unionOf                        the union of the sets of variables
---     finalSets, Finished            the sets and kinds at the end of the text
 -- proofs/Laws/Declaring.antt has what they are in the calculus.
 use mathlib.Core.Path.{_≡_}
 use mathlib.Core.Bool.{Bool, true, false, cond, not, _&&_}
-use mathlib.Core.List.{List, [], _∷_, _++_, map}
+use mathlib.Core.List.{List, [], _∷_}
 use Prim.Native.Nat.{ℕ, _-_, _/_}
 use lib.Dec.{leb, eqb}
-use lib.ListN.{getD, set, take, drop}
+use lib.ListN.{getD, set}
 use Rattle.dqbf.specs.Set.{Set, emptySet, union}
 use Rattle.tables.specs.Tables.{entry}
-use Rattle.prefix_lines.specs.Pending.{finalKind, finalSet}
 
 -- a variable from 1 to V that has no kind yet
 unfoldable pub declarable : ℕ → List ℕ → ℕ → Bool
@@ -33,13 +31,3 @@ isDeclared kinds rank = not (eqb (entry kinds (rank / 2)) 0)
 unfoldable pub unionOf : List Set → List ℕ → Set
 unionOf sets [] = emptySet
 unionOf sets (x ∷ xs) = union (entry sets x) (unionOf sets xs)
-
-unfoldable pub finalSets : Set → List ℕ → List Set → List Set
-finalSets places [] sets = sets
-finalSets places (k ∷ kinds) [] = []
-finalSets places (k ∷ kinds) (s ∷ sets) = finalSet places k s ∷ finalSets places kinds sets
-
--- the first n kinds and sets are as at the end of the text
-pub record Finished (places : Set) (n : ℕ) (sets kinds sets′ kinds′ : List ℕ) : Type 0 where
-  pub sets-are : sets′ ≡ finalSets places (take n kinds) (take n sets) ++ drop n sets
-  pub kinds-are : kinds′ ≡ map finalKind (take n kinds) ++ drop n kinds

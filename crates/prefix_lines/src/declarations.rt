@@ -44,7 +44,7 @@ fn declare(
     true
 }
 
-// One variable of an `a` line, or of an `e` line.
+// One variable of an `a` line; or of an `e` line, whose set is the universals so far.
 fn declare_one(
     variable: u32,
     universal: bool,
@@ -71,7 +71,7 @@ fn declare_one(
             refusal: refusal::NONE,
         };
     }
-    if !declare(variable, bound.0, 4, 0, sets, kinds) {
+    if !declare(variable, bound.0, 2, progress.places, sets, kinds) {
         return progress::refused(progress, refusal::VARIABLE);
     }
     LineAnswer {

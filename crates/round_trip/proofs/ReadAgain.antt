@@ -10,7 +10,7 @@ use Rattle.dqbf.specs.Limits.{textLimit, tables}
 use Rattle.dqbf.specs.Refusal.{refusal}
 use Rattle.dqbf.specs.Formula.{Formula}
 use Rattle.dqbf.specs.Reading.{load, accepted}
-use Rattle.dqbf.specs.Model.{Model, modelOf}
+use Rattle.dqbf.specs.Model.{Model, modelBy, modelOf}
 use Rattle.dqbf.specs.Valid.{Valid}
 use Rattle.dqbf.proofs.LoadValid.{load-valid}
 use Rattle.tables.specs.declared.State.{State}
@@ -71,7 +71,7 @@ read-again t s out n h short t′ lent =
     ap (loadOf t′) (w .is) ∙ on-accepted t′ (spelled (modelIn t s)) (formulaOf (formulaPart (modelIn t s))) lent (r .0) ∙ ap (λ (m : Model). loaded m t′) (r .1)
 
 pub part-formula : (φ : Formula) → formulaPart (modelOf φ) ≡ modelOf φ
-unfolding formulaPart modelOf
+unfolding formulaPart modelBy
 part-formula φ = refl
 
 -- a model without steps, over the tables that hold it

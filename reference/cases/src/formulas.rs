@@ -103,19 +103,15 @@ pub fn random_formula(random: &mut Random, size: Size) -> Draft {
     }
 }
 
-/// One or two `a` lines, and a line for every one or few existentials.
+/// One to many `a` lines, and a line for every one or few existentials; an `e`
+/// line stands anywhere among the `a` lines.
 fn random_prefix(random: &mut Random, universals: &[u32], existentials: &[u32]) -> Vec<Prefix> {
-    let mut prefix = Vec::new();
-    let (first, second) = universals.split_at(random.below(universals.len() + 1));
-    for part in [first, second] {
-        if !part.is_empty() {
-            prefix.push(Prefix::Universals(part.to_vec()));
-        }
-    }
+    let mut prefix = universal_lines(random, universals);
     let percent = random.pick(&[25, 50, 50, 75]);
+    let on_e_lines = random.pick(&[20, 20, 60]);
     let mut rest = existentials;
     while !rest.is_empty() {
-        if random.chance(20) {
+        if random.chance(on_e_lines) {
             let (named, behind) = rest.split_at(random.between(1, rest.len()));
             let place = random.below(prefix.len() + 1);
             prefix.insert(place, Prefix::Existentials(named.to_vec()));
@@ -130,9 +126,28 @@ fn random_prefix(random: &mut Random, universals: &[u32], existentials: &[u32]) 
     prefix
 }
 
+/// The universals on one or two `a` lines, or on lines of a few each.
+fn universal_lines(random: &mut Random, universals: &[u32]) -> Vec<Prefix> {
+    let few = random.chance(40);
+    let mut lines = Vec::new();
+    let mut rest = universals;
+    while !rest.is_empty() {
+        let length = match lines.len() {
+            _ if few => random.between(1, 3).min(rest.len()),
+            0 => random.between(1, rest.len()),
+            _ => rest.len(),
+        };
+        let (named, behind) = rest.split_at(length);
+        lines.push(Prefix::Universals(named.to_vec()));
+        rest = behind;
+    }
+    lines
+}
+
 /// A formula of 0 to 64 universals anywhere among the variables, on several lines
 /// and in any order, with empty, full and other sets. Sometimes all variables up
-/// to 512 are declared, so that the tidy text is longer than a load takes.
+/// to 512 are declared, many behind all universals, so that the tidy text is longer
+/// than a load takes.
 pub fn prefixed_formula(random: &mut Random) -> Draft {
     let universals = random.pick(&[0, 1, 2, 10, 31, 32, 33, 63, 64, 64]);
     let existentials = random.pick(&[0, 1, 5, 20, 60]);
@@ -146,7 +161,8 @@ pub fn prefixed_formula(random: &mut Random) -> Draft {
     let (existentials, others) = rest.split_at(existentials);
     let mut prefix = large_prefix(random, universals, existentials);
     if !others.is_empty() && random.chance(50) {
-        let place = random.below(prefix.len() + 1);
+        let anywhere = random.below(prefix.len() + 1);
+        let place = random.pick(&[anywhere, prefix.len()]);
         prefix.insert(place, Prefix::Existentials(others.to_vec()));
     }
     let size = Size {
@@ -162,14 +178,21 @@ pub fn prefixed_formula(random: &mut Random) -> Draft {
     }
 }
 
-/// Up to four `a` lines, and a `d` line for each existential.
+/// Up to four `a` lines; each existential is on a `d` line, or on an `e` line
+/// anywhere.
 fn large_prefix(random: &mut Random, universals: &[u32], existentials: &[u32]) -> Vec<Prefix> {
     let most = universals.len().max(1);
     let lines = universals.chunks(random.between(most.div_ceil(4), most));
     let mut prefix: Vec<Prefix> = lines
         .map(|line| Prefix::Universals(line.to_vec()))
         .collect();
+    let on_e_lines = random.pick(&[0, 20, 50]);
     for &existential in existentials {
+        if random.chance(on_e_lines) {
+            let place = random.below(prefix.len() + 1);
+            prefix.insert(place, Prefix::Existentials(vec![existential]));
+            continue;
+        }
         let percent = random.pick(&[0, 10, 50, 90, 100]);
         let set = random.some(universals, percent);
         let place = random.between(first_place(&prefix, &set), prefix.len());

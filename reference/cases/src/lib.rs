@@ -7,6 +7,7 @@ pub mod case;
 pub mod container;
 pub mod damage;
 pub mod draft;
+pub mod e_lines;
 pub mod formulas;
 pub mod lent;
 pub mod numbered;

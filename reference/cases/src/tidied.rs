@@ -31,7 +31,7 @@ const LARGE: [&str; 4] = [
 
 /// Texts of this module with their labels; braces and strokes as in
 /// `data/texts.txt`.
-const TEXTS: [(&str, &str); 20] = [
+const TEXTS: [(&str, &str); 23] = [
     ("nothing in use", "c|c  p|p  cnf 0  0|"),
     ("no universal", "p cnf 3 2|e 3 1 0|d 2 0|3 -2 0|1 0|"),
     ("no existential", "p cnf 3 2|a 3 0|a 1 2 0|-3 1 0|2 0|"),
@@ -58,6 +58,18 @@ const TEXTS: [(&str, &str); 20] = [
     (
         "e before, between and behind",
         "p cnf 6 0|e 1 0|a 6 0|e 2 0|a 3 0|e 5 4 0|",
+    ),
+    (
+        "an e line before each a line",
+        "p cnf 8 0|e 2 0|a 1 0|e 4 0|a 3 0|e 6 0|a 5 0|e 8 0|a 7 0|",
+    ),
+    (
+        "e between falling universals",
+        "p cnf 7 1|a 7 6 0|e 2 5 0|a 4 0|e 3 0|a 1 0|-2 1 0|",
+    ),
+    (
+        "e behind 63 universals and behind 64",
+        "p cnf 66 0|a {1..63}0|e 65 0|a 64 0|e 66 0|",
     ),
     (
         "d before its last universals",
@@ -171,7 +183,10 @@ fn told(lent: &mut Lent, case: &Case) -> String {
     let text = String::from_utf8_lossy(&long[..length]);
     let mut short = vec![MARK; length - 1];
     let refusal = lent.write(&mut short).expect_err("a byte short");
-    let kept = long[length..].iter().chain(&short).all(|&byte| byte == MARK);
+    let kept = long[length..]
+        .iter()
+        .chain(&short)
+        .all(|&byte| byte == MARK);
     let marks = if kept { "marked" } else { "changed" };
     format!("{label}\n{text}{length}\n{}\n{marks}\n", refusal.value())
 }

@@ -33,17 +33,17 @@ fn a_seed_gives_the_same_cases_on_every_machine() {
 }
 
 const SEED_1: [&str; 12] = [
-    "refuted 1 13",
-    "refuted 12 26",
-    "open 7",
+    "formula 17 10",
+    "refuted 18 27",
+    "bad 11 25",
     "bad 4 29",
-    "formula 5 10",
-    "formula 2 10",
+    "open 2",
+    "formula 8 10",
     "bad 1 20",
-    "formula 12 10",
+    "formula 4 10",
     "bad 170 22",
-    "bad 8 20",
-    "refuted 1 24",
+    "bad 5 20",
+    "refuted 1 26",
     "bad 68 20",
 ];
 

@@ -1,5 +1,6 @@
-//! Document 01, "Formula text" and "Numbers of refusal": a formula is read line
-//! by line from the top; each line is tested 10, 11, 12, 13, 14.
+//! Document 01, "Formula text" and "Numbers of refusal", with Note 3 of document
+//! 02: a formula is read line by line from the top; each line is tested 10, 11,
+//! 12, 13, 14.
 
 use std::collections::{BTreeMap, BTreeSet};
 
@@ -13,9 +14,8 @@ use crate::text::{self, Line};
 pub enum Quantifier {
     /// On an `a` line.
     Universal,
-    /// On an `e` line: depends on every universal of the file.
-    OnEvery,
-    /// On a `d` line: depends on the universals named there.
+    /// On an `e` line: depends on the universals declared on lines before it. On
+    /// a `d` line: depends on the universals named there.
     On(BTreeSet<u32>),
 }
 
@@ -36,7 +36,6 @@ impl Formula {
     pub fn set(&self, variable: u32) -> BTreeSet<u32> {
         match self.prefix.get(&variable) {
             Some(Quantifier::Universal) => BTreeSet::from([variable]),
-            Some(Quantifier::OnEvery) => self.universals.iter().copied().collect(),
             Some(Quantifier::On(set)) => set.clone(),
             None => BTreeSet::new(),
         }
@@ -165,8 +164,9 @@ impl Reader {
     }
 
     fn existentials(&mut self, named: &[u32]) -> Result<(), Number> {
+        let before: BTreeSet<u32> = self.formula.universals.iter().copied().collect();
         for &variable in named {
-            self.declare(variable, Quantifier::OnEvery)?;
+            self.declare(variable, Quantifier::On(before.clone()))?;
         }
         Ok(())
     }

@@ -73,7 +73,7 @@ impl State {
             kind: match formula.prefix.get(&number) {
                 None => Kind::Undeclared,
                 Some(Quantifier::Universal) => Kind::Universal,
-                Some(Quantifier::OnEvery | Quantifier::On(_)) => Kind::Existential,
+                Some(Quantifier::On(_)) => Kind::Existential,
             },
             set: formula.set(number),
         };

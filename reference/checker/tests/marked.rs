@@ -77,11 +77,19 @@ fn m8_a_clause_with_itself() {
 }
 
 #[test]
-fn m9_every_universal_of_the_file() {
+fn m9_the_universals_before_an_e_line() {
     let state = State::load(b"p cnf 3 0\na 1 0\ne 2 0\na 3 0\n").unwrap();
     assert_eq!(state.verdict().to_string(), "open 0");
-    assert_eq!(state.ask_variable(2), Ok((Kind::Existential, 2)));
-    assert_eq!(export(&state).sets[..3], [1, 3, 2]);
+    assert_eq!(state.ask_variable(2), Ok((Kind::Existential, 1)));
+    assert_eq!(export(&state).sets[..3], [1, 1, 2]);
+}
+
+#[test]
+fn each_e_line_sees_the_universals_before_it() {
+    let text = b"p cnf 7 0\ne 7 0\na 1 0\ne 6 0\na 3 2 0\ne 5 0\na 4 0\n";
+    let state = State::load(text).unwrap();
+    assert_eq!(state.universals(), [1, 3, 2, 4]);
+    assert_eq!(export(&state).sets[..8], [1, 4, 2, 8, 7, 1, 0, 0]);
 }
 
 #[test]

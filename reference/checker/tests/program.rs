@@ -57,7 +57,7 @@ fn a_tidy_text() {
     let folder = folder("tidy", &files);
     let tidy = |name: &str| printed_for(&[Path::new("--tidy"), &folder.join(name)]);
     assert_eq!(tidy("example").as_bytes(), EXAMPLE);
-    assert_eq!(tidy("untidy"), "p cnf 3 1\na 2 1 0\nd 3 1 2 0\n-2 3 0\n");
+    assert_eq!(tidy("untidy"), "p cnf 3 1\na 2 1 0\nd 3 2 0\n-2 3 0\n");
     assert_eq!(tidy("refused"), "formula 2 12\n");
     assert_eq!(tidy("long"), "formula 0 11\n");
     assert_eq!(tidy("missing"), "formula 1 10\n");

@@ -56,14 +56,15 @@ fn the_spelling() {
             "p cnf 512 1|a 512 10 9 100 99 0|e 511 0|512 -99 100 -9 10 511 0|",
             "p cnf 512 1|a 512 10 9 100 99 0|d 511 9 10 99 100 512 0|-9 10 -99 100 511 512 0|",
         ),
-        // An `e` line becomes the sets that it gives.
-        (
-            "p cnf 3 0|a 1 0|e 2 0|a 3 0|",
-            "p cnf 3 0|a 1 3 0|d 2 1 3 0|",
-        ),
+        // An `e` line becomes the sets that it gives: the universals before it.
+        ("p cnf 3 0|a 1 0|e 2 0|a 3 0|", "p cnf 3 0|a 1 3 0|d 2 1 0|"),
         (
             "p cnf 4 0|e 2 0|a 3 1 0|d 4 1 0|",
-            "p cnf 4 0|a 3 1 0|d 2 1 3 0|d 4 1 0|",
+            "p cnf 4 0|a 3 1 0|d 2 0|d 4 1 0|",
+        ),
+        (
+            "p cnf 8 0|e 8 0|a 5 0|e 7 1 0|a 2 3 0|d 6 3 0|e 4 0|",
+            "p cnf 8 0|a 5 2 3 0|d 1 5 0|d 4 2 3 5 0|d 6 3 0|d 7 5 0|d 8 0|",
         ),
         // Clauses keep their order, repeats of a clause too.
         (

@@ -1,5 +1,5 @@
-//! Document 01, "The refutation statement": decides small formulas by their
-//! meaning, with no rule of any calculus.
+//! Document 01, "The refutation statement", with Note 3 of document 02: decides
+//! small formulas by their meaning, with no rule of any calculus.
 //!
 //! It has a reader of its own for accepted texts, so that what it decides is
 //! what the text says and not what the checker made of it.
@@ -31,7 +31,6 @@ pub type Family = BTreeMap<u32, BTreeMap<Setting, bool>>;
 /// Reads a text that is accepted by document 01; any other may panic.
 pub fn meaning(text: &str) -> Meaning {
     let mut meaning = Meaning::default();
-    let mut on_all = Vec::new();
     let lines = text.lines().skip_while(|line| line.starts_with('c'));
     for line in lines.skip(1) {
         let mut words: Vec<&str> = line.split_ascii_whitespace().collect();
@@ -39,7 +38,13 @@ pub fn meaning(text: &str) -> Meaning {
         let number = |word: &&str| word.parse().expect("a number");
         match words.first().copied() {
             Some("a") => meaning.universals.extend(words[1..].iter().map(number)),
-            Some("e") => on_all.extend(words[1..].iter().map(number)),
+            // An existential sees what is declared so far, and nothing later.
+            Some("e") => {
+                let so_far: BTreeSet<u32> = meaning.universals.iter().copied().collect();
+                let named = words[1..].iter().map(number);
+                let each = named.map(|variable| (variable, so_far.clone()));
+                meaning.existentials.extend(each);
+            }
             Some("d") => {
                 let set = words[2..].iter().map(number).collect();
                 meaning.existentials.insert(number(&words[1]), set);
@@ -52,9 +57,6 @@ pub fn meaning(text: &str) -> Meaning {
             ),
         }
     }
-    let every: BTreeSet<u32> = meaning.universals.iter().copied().collect();
-    let with_all = on_all.into_iter().map(|variable| (variable, every.clone()));
-    meaning.existentials.extend(with_all);
     meaning
 }
 
@@ -243,9 +245,13 @@ mod tests {
     }
 
     #[test]
-    fn a_later_universal_counts_for_e_lines() {
+    fn a_later_universal_does_not_count_for_e_lines() {
         let text = b"p cnf 2 2\ne 2 0\na 1 0\n1 2 0\n-1 -2 0\n";
+        assert_eq!(decide(text), Some(false));
+        let text = b"p cnf 3 2\na 1 0\ne 2 0\na 3 0\n1 2 0\n-1 -2 0\n";
         assert_eq!(decide(text), Some(true));
+        let text = b"p cnf 3 2\na 1 0\ne 2 0\na 3 0\n3 2 0\n-3 -2 0\n";
+        assert_eq!(decide(text), Some(false));
     }
 
     #[test]

@@ -40,6 +40,12 @@ enum Fault {
     Miscounts,
     /// 2 is not told of a state that is one count off.
     TrustsState,
+    /// An `e` line sees later universals too.
+    SeesLater,
+    /// An `e` line sees nothing.
+    SeesNothing,
+    /// The first two `e` lines have each other's sets.
+    SwapsSets,
     /// The `a` line goes by number.
     DeclaredByNumber,
     /// The members of a set go by their place.
@@ -72,7 +78,7 @@ enum Fault {
     OtherNumber,
 }
 
-const FAULTS: [Fault; 19] = [
+const FAULTS: [Fault; 22] = [
     Fault::WritesBehind(0),
     Fault::WritesBehind(1),
     Fault::WritesBehind(2),
@@ -92,6 +98,9 @@ const FAULTS: [Fault; 19] = [
     Fault::Narrows,
     Fault::Miscounts,
     Fault::TrustsState,
+    Fault::SeesLater,
+    Fault::SeesNothing,
+    Fault::SwapsSets,
 ];
 
 /// Those that only a write has.
@@ -135,6 +144,28 @@ impl Faulty {
             }
         }
     }
+
+    /// Gives the variables on `e` lines of an accepted text other sets.
+    fn change_sets(&self, text: &[u8], lent: &mut Lent) {
+        let text = String::from_utf8_lossy(text);
+        let lines = text.lines().filter(|line| line.starts_with('e'));
+        let lines: Vec<Vec<i32>> = lines.map(numbers).collect();
+        let place = |variable: i32| 8 * (variable as usize - 1);
+        let set = |line: &Vec<i32>| lent[2][place(line[0])..][..8].try_into().unwrap();
+        let mut sets: Vec<[u8; 8]> = lines.iter().map(set).collect();
+        let every = ((1u128 << lent[4][4]) - 1) as u64;
+        match self.0 {
+            Fault::SeesLater => sets.fill(every.to_le_bytes()),
+            Fault::SeesNothing => sets.fill([0; 8]),
+            Fault::SwapsSets if sets.len() > 1 => sets.swap(0, 1),
+            _ => return,
+        }
+        for (line, set) in lines.iter().zip(sets) {
+            for &variable in line {
+                lent[2][place(variable)..][..8].copy_from_slice(&set);
+            }
+        }
+    }
 }
 
 impl Library for Faulty {
@@ -151,6 +182,7 @@ impl Library for Faulty {
             Fault::NextLine if refused && !short => return word + (1 << 16),
             Fault::HighField if !refused => return word | 1 << 48,
             Fault::ClearedCase if !refused => return word & !0xFFFF,
+            _ if !refused => self.change_sets(text, &mut lent),
             _ => (),
         }
         word

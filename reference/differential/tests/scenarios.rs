@@ -6,6 +6,8 @@ use std::fs;
 use std::os::unix::fs::PermissionsExt;
 use std::path::Path;
 
+use cases::e_lines::{old_state, with_smaller_sets};
+use checker::state::State;
 use differential::compare::fields;
 use differential::generate::Scenarios;
 use differential::oracle;
@@ -90,6 +92,25 @@ fn a_tidy_text_restores_the_formula() {
     let [exact, longer, short] = outputs;
     assert!(exact > 800 && longer > 400 && short > 800, "{outputs:?}");
     assert!(high > 20, "{high}");
+}
+
+/// Note 3 of document 02: many texts have an `e` line before an `a` line, and many
+/// of their lists end otherwise than by the rule before the note.
+#[test]
+fn scenarios_reach_e_lines_before_universals() {
+    let scenarios = Scenarios::new(1);
+    let (mut texts, mut otherwise) = (0, 0);
+    for case in (0..3_000).filter_map(|index| scenarios.case(index)) {
+        let refused = case.expected.starts_with("formula");
+        if refused || with_smaller_sets(&case.text).is_empty() {
+            continue;
+        }
+        let old = old_state(&case.text).run(&case.records);
+        let new = State::load(&case.text).map(|mut state| state.run(&case.records));
+        texts += 1;
+        otherwise += usize::from(new != Ok(old));
+    }
+    assert!(texts > 400 && otherwise > 200, "{texts} {otherwise}");
 }
 
 #[test]

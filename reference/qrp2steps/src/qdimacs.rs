@@ -73,8 +73,8 @@ impl Qbf {
         free
     }
 
-    /// The DQDIMACS text: an existential depends on the universals before it.
-    /// Those behind the last universal stand on `e` lines.
+    /// The DQDIMACS text: an existential depends on the universals before it, as
+    /// on the `e` lines of both formats.
     pub fn text(&self) -> String {
         let line = |front: &str, rest: &[String]| format!("{front} {} 0\n", rest.join(" "));
         let named =
@@ -83,21 +83,9 @@ impl Qbf {
         for variable in self.free() {
             text += &format!("d {variable} 0\n");
         }
-        let last = self.prefix.iter().rposition(|block| block.universal);
-        let mut universals = Vec::new();
-        for (place, block) in self.prefix.iter().enumerate() {
-            let variables = named(&block.variables);
-            if variables.is_empty() {
-                continue;
-            } else if block.universal {
-                text += &line("a", &variables);
-                universals.extend(variables);
-            } else if Some(place) > last {
-                text += &line("e", &variables);
-            } else {
-                let each = variables.into_iter();
-                text.extend(each.map(|x| line("d", &[vec![x], universals.clone()].concat())));
-            }
+        for block in self.prefix.iter().filter(|b| !b.variables.is_empty()) {
+            let letter = if block.universal { "a" } else { "e" };
+            text += &line(letter, &named(&block.variables));
         }
         for clause in &self.clauses {
             let literals = clause
@@ -117,7 +105,7 @@ mod tests {
     #[test]
     fn existentials_depend_on_the_universals_before_them() {
         let text = "c\np cnf 6 3\ne 1 0\na 2 3 0\ne 4 0\na 5 0\ne 6 0\n1 -2 0\n4\n6 0 3 -3 0\n";
-        let wanted = "p cnf 6 2\nd 1 0\na 2 3 0\nd 4 2 3 0\na 5 0\ne 6 0\n1 -2 0\n4 6 0\n";
+        let wanted = "p cnf 6 2\ne 1 0\na 2 3 0\ne 4 0\na 5 0\ne 6 0\n1 -2 0\n4 6 0\n";
         let read = read(text).unwrap();
         assert_eq!(read.text(), wanted);
     }

@@ -25,7 +25,7 @@ use Rattle.dqbf.specs.Limits.{clauseLimit, literalLimit, variableLimit, widthLi
 use Rattle.dqbf.specs.Refusal.{refusal, first, _when_}
 use Rattle.dqbf.specs.Literal.{Clause, _∈_, rank, sorted, clashes, total}
 use Rattle.dqbf.specs.Formula.{Formula, universals, declared}
-use Rattle.dqbf.specs.Model.{Model, clauses, wordOf}
+use Rattle.dqbf.specs.Model.{Model, clauses, wordOf, modelBy, modelOf}
 use Rattle.dqbf.specs.Reading.{Form, clauseLine, Phase, opening, clauseLines, Reader, isOpening, takesClauses, elem, allIn, lineTests, taken}
 use Rattle.dqbf.proofs.Laws.Tests.{either, and-left, and-right, both, never, pass, no-not, no-or, or-left, or-right}
 use Rattle.dqbf.proofs.Laws.Counting.{in-elem}
@@ -46,12 +46,11 @@ use Rattle.tables.proofs.Laws.Rows.{stored-tail}
 use Rattle.tables.proofs.Laws.Entries.{entry-past}
 use Rattle.tables.proofs.Laws.Adding.{formula-state, formula-tables}
 use Rattle.clause_lines.specs.Clause.{clauseRefusal}
-use Rattle.prefix_lines.specs.Pending.{pendingKind, pending}
 use Rattle.prefix_lines.specs.Rows.{isDeclared}
 use Rattle.prefix_lines.specs.Lines.{phaseNumber, progressOf, refusalOf, ReadSoFar, LineRead, Within, clauseAdded}
 use Rattle.prefix_lines.specs.declared.progress.Progress.{Progress}
-use Rattle.prefix_lines.proofs.Laws.Pending.{kind-declared}
-use Rattle.prefix_lines.proofs.Laws.Models.{kind-entry, pending-clauses, pending-clause}
+use Rattle.prefix_lines.proofs.Laws.Variables.{kind-declared}
+use Rattle.prefix_lines.proofs.Laws.Models.{kind-entry, model-clauses, model-clause}
 use Rattle.prefix_lines.proofs.Laws.Reading.{phase-is, phase-opening, phase-late, count-is, places-is, state-is, bound-is, universals-is, clauses-is, formula-is, literals-is, framed, kinds-front}
 use Rattle.prefix_lines.proofs.Laws.Declaring.{no-tests}
 use Rattle.prefix_lines.proofs.Laws.LineTests.{test-fails, test-passes, line-refused, line-taken}
@@ -200,7 +199,7 @@ module _ {t : Tables} {r : Reader} {p : Progress} {now : Tables} (h : ReadSoFar 
   rank-told : (l : ℤ) → isDeclared (take (p .state .bound .0) (now .kinds)) (rank l) ≡ elem (natAbs l) (declared (φ .prefix))
   unfolding isDeclared
   rank-told l =
-      rw (rank-variable l, kinds-front h, kind-entry r (h .sane) (natAbs l), kind-declared (φ .prefix) (natAbs l)) (Bool·not-not (elem (natAbs l) (declared (φ .prefix))))
+      rw (rank-variable l, kinds-front h, kind-entry r (h .sane) (natAbs l), kind-declared φ (natAbs l)) (Bool·not-not (elem (natAbs l) (declared (φ .prefix))))
 
   ranks-told : (C : Clause) → allOf (isDeclared (take (p .state .bound .0) (now .kinds))) (map rank C) ≡ allIn (declared (φ .prefix)) (map natAbs C)
   unfolding allOf allIn
@@ -288,26 +287,26 @@ module _ {t : Tables} {r : Reader} {p : Progress} {now : Tables} (h : ReadSoFar 
                 abbrev ψ : Formula
                 ψ = record { bound = φ .bound; prefix = φ .prefix; clauses = φ .clauses ++ (C ∷ []) }
 
-                no-derived : pending φ .derived ≡ []
-                unfolding pending
+                no-derived : modelOf φ .derived ≡ []
+                unfolding modelBy
                 no-derived = refl
 
-                state-more : formulaCounted (clauseEnded (p .state) w) ≡ stateOf (pending ψ)
+                state-more : formulaCounted (clauseEnded (p .state) w) ≡ stateOf (modelOf ψ)
                 state-more =
-                    let s : p .state ≡ stateOf (pending φ) = unfold progressOf in ap (λ (q : Progress). q .state) (h .progress) in
-                    rw (s, width-is, pending-clause φ C) (formula-state (pending φ) (sorted C) no-derived)
+                    let s : p .state ≡ stateOf (modelOf φ) = unfold progressOf in ap (λ (q : Progress). q .state) (h .progress) in
+                    rw (s, width-is, model-clause φ C) (formula-state (modelOf φ) (sorted C) no-derived)
 
                 progress-more : {q : Progress} → q ≡ clauseAdded p w → q ≡ progressOf (taken r (clauseLine C))
                 unfolding clauseAdded progressOf taken phaseNumber
                 progress-more e = e ∙ (λ i. record { phase = 2; count = count-is h i; places = places-is h i; state = state-more i })
 
                 tables-more : {ls : List ℤ} {es : List ℕ} → ls ≡ stored (now .literals) (p .state .literals) (map literalOfRank (take w out))
-                    → es ≡ set (now .ends) (p .state .clauses .0) (p .state .literals + w) → tablesOf ls es (now .sets) (now .kinds) ≡ spread (pending ψ) t
+                    → es ≡ set (now .ends) (p .state .clauses .0) (p .state .literals + w) → tablesOf ls es (now .sets) (now .kinds) ≡ spread (modelOf ψ) t
                 tables-more e f =
-                    let m = pending φ in
-                    let n : p .state .literals ≡ total (clauses m) = literals-is h ∙ ap total (sym (pending-clauses φ)) in
-                    let k : p .state .clauses .0 ≡ length (clauses m) = clauses-is h ∙ sym (length-map (φ .clauses) sorted) ∙ ap (λ (Cs : List Clause). length Cs) (sym (pending-clauses φ)) in
-                    rw (e, f, clause-literals C widthLimit w out put narrow, width-is, n, k, h .tables, pending-clause φ C)
+                    let m = modelOf φ in
+                    let n : p .state .literals ≡ total (clauses m) = literals-is h ∙ ap total (sym (model-clauses φ)) in
+                    let k : p .state .clauses .0 ≡ length (clauses m) = clauses-is h ∙ sym (length-map (φ .clauses) sorted) ∙ ap (λ (Cs : List Clause). length Cs) (sym (model-clauses φ)) in
+                    rw (e, f, clause-literals C widthLimit w out put narrow, width-is, n, k, h .tables, model-clause φ C)
                     (formula-tables m (sorted C) no-derived t (omega (arith, k, few, count-is h, h .sane .few)) (omega (arith, n, width-is, light)))
 
                 pub c-read : {q : Progress} {ls : List ℤ} {es : List ℕ} → q ≡ clauseAdded p w → ls ≡ stored (now .literals) (p .state .literals) (map literalOfRank (take w out))

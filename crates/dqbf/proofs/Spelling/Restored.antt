@@ -1,9 +1,10 @@
--- The model of `formulaOf` is the formula part (specs/Spelled.antt): kinds, set words and clauses are restored. No rule of `e` lines enters.
+-- The model of `formulaOf` is the formula part (specs/Spelled.antt): kinds, set words and clauses are restored.
+-- The formula has no `e` line: what its variables are does not depend on the rule for them.
 use mathlib.Core.Path.{_≡_, refl, sym, _∙_, ap, ap₂}
 use mathlib.Core.Logic.{_⊎_, inl, inr, _≢_}
-use mathlib.Core.Bool.{Bool, true, false, cond, false≢true, true≢false}
+use mathlib.Core.Bool.{Bool, true, false, cond, false≢true}
 use mathlib.Core.List.{List, [], _∷_, _++_, map, append-nil, List·Memᴰ·head, List·Memᴰ·tail, Memᴰ·append-left}
-use Prim.Native.Nat.{ℕ, zero, suc, _+_, _^_, _≤_, _<_}
+use Prim.Native.Nat.{ℕ, zero, suc, _+_, _≤_, _<_}
 use native.Mathlib.Nat.{zero-add}
 use native.Mathlib.Omega.{arith}
 use lib.Dec.{eqb}
@@ -11,12 +12,12 @@ use lib.ListN.{length, getD, replicate, List·getD-append}
 use Rattle.dqbf.specs.Limits.{Room}
 use Rattle.dqbf.specs.Literal.{Clause, _∈_, sorted}
 use Rattle.dqbf.specs.Set.{Set, bit, single}
-use Rattle.dqbf.specs.Formula.{Declaration, onA, onD, Formula, universalsOf, universals, declaredAs, Var, undeclared, universal, existential, var}
-use Rattle.dqbf.specs.Model.{Model, clauses, universalCount, kindOf, setOf, place, wordOf, kindFor, setFor, numbers, modelOf}
+use Rattle.dqbf.specs.Formula.{Declaration, onA, onD, Formula, universalsOf, universals, ERule, eSet, declaredAs, Var, undeclared, universal, existential, varBy, var}
+use Rattle.dqbf.specs.Model.{Model, clauses, universalCount, kindOf, setOf, wordOf, kindFor, setFor, numbers, modelBy, modelOf}
 use Rattle.dqbf.specs.Valid.{Valid}
-use Rattle.dqbf.proofs.Laws.Tests.{eqb-is, eqb-not, eqb-same, never, or-either}
-use Rattle.dqbf.proofs.Laws.Words.{bit-ext, bit-or, bit-single, bit-zero, single-inside}
-use Rattle.dqbf.proofs.Laws.Counting.{word-has}
+use Rattle.dqbf.proofs.Laws.Tests.{eqb-is, eqb-not, eqb-same, never}
+use Rattle.dqbf.proofs.Laws.Words.{bit-ext, single-inside}
+use Rattle.dqbf.proofs.Laws.Counting.{word-has, word-in}
 use Rattle.dqbf.proofs.Laws.Lists.{nth}
 use Rattle.dqbf.proofs.Reading.Lines.{universals-a, universals-append}
 use Rattle.dqbf.specs.Spelled.{formulaPart, universalAt, declarationOrder, membersOf, existentials, formulaOf}
@@ -25,54 +26,43 @@ use Rattle.dqbf.proofs.Spelling.Passing.{sorted-same}
 
 -- ---- what a variable is declared as
 
-as-universal : (earlier all us : List ℕ) (ds : List Declaration) (x : ℕ) → x ∈ us → declaredAs earlier all (map onA us ++ ds) x ≡ universal
-unfolding declaredAs
-as-universal earlier all (y ∷ us) ds x (List·Memᴰ·head e) = rw (e, eqb-same y)
-as-universal earlier all (y ∷ us) ds x (List·Memᴰ·tail q) = go (eqb x y) (as-universal (earlier ++ (y ∷ [])) all us ds x q)
-  where
-    go : (b : Bool) → declaredAs (earlier ++ (y ∷ [])) all (map onA us ++ ds) x ≡ universal → cond b universal (declaredAs (earlier ++ (y ∷ [])) all (map onA us ++ ds) x) ≡ universal
-    go true h = refl
-    go false h = h
-
-past-universals : (all us : List ℕ) (ds : List Declaration) (x : ℕ) (r : Var) → (x ∈ us → ⊥) → ((earlier : List ℕ) → declaredAs earlier all ds x ≡ r)
-    → (earlier : List ℕ) → declaredAs earlier all (map onA us ++ ds) x ≡ r
-unfolding declaredAs
-past-universals all [] ds x r d h earlier = h earlier
-past-universals all (y ∷ us) ds x r d h earlier =
-    rw (eqb-not x y (λ e. d (List·Memᴰ·head e))) (past-universals all us ds x r (λ q. d (List·Memᴰ·tail q)) h (earlier ++ (y ∷ [])))
-
-module _ (f : ℕ → List ℕ) where
-  as-existential : (all es : List ℕ) (x : ℕ) → x ∈ es → (earlier : List ℕ) → declaredAs earlier all (map (λ y. onD y (f y)) es) x ≡ existential (f x)
+module _ (rule : ERule) where
+  as-universal : (earlier all us : List ℕ) (ds : List Declaration) (x : ℕ) → x ∈ us → declaredAs rule earlier all (map onA us ++ ds) x ≡ universal
   unfolding declaredAs
-  as-existential all (y ∷ es) x (List·Memᴰ·head e) earlier = rw (e, eqb-same y)
-  as-existential all (y ∷ es) x (List·Memᴰ·tail q) earlier = go (eqb x y) refl (as-existential all es x q earlier)
+  as-universal earlier all (y ∷ us) ds x (List·Memᴰ·head e) = rw (e, eqb-same y)
+  as-universal earlier all (y ∷ us) ds x (List·Memᴰ·tail q) = go (eqb x y) (as-universal (earlier ++ (y ∷ [])) all us ds x q)
     where
-      go : (b : Bool) → eqb x y ≡ b → declaredAs earlier all (map (λ y. onD y (f y)) es) x ≡ existential (f x)
-          → cond b (existential (f y)) (declaredAs earlier all (map (λ y. onD y (f y)) es) x) ≡ existential (f x)
-      go true e h = ap (λ (z : ℕ). existential (f z)) (sym (eqb-is x y e))
-      go false e h = h
+      go : (b : Bool) → declaredAs rule (earlier ++ (y ∷ [])) all (map onA us ++ ds) x ≡ universal → cond b universal (declaredAs rule (earlier ++ (y ∷ [])) all (map onA us ++ ds) x) ≡ universal
+      go true h = refl
+      go false h = h
 
-  as-undeclared : (all es : List ℕ) (x : ℕ) → (x ∈ es → ⊥) → (earlier : List ℕ) → declaredAs earlier all (map (λ y. onD y (f y)) es) x ≡ undeclared
+  past-universals : (all us : List ℕ) (ds : List Declaration) (x : ℕ) (r : Var) → (x ∈ us → ⊥) → ((earlier : List ℕ) → declaredAs rule earlier all ds x ≡ r)
+      → (earlier : List ℕ) → declaredAs rule earlier all (map onA us ++ ds) x ≡ r
   unfolding declaredAs
-  as-undeclared all [] x d earlier = refl
-  as-undeclared all (y ∷ es) x d earlier = rw (eqb-not x y (λ e. d (List·Memᴰ·head e))) (as-undeclared all es x (λ q. d (List·Memᴰ·tail q)) earlier)
+  past-universals all [] ds x r d h earlier = h earlier
+  past-universals all (y ∷ us) ds x r d h earlier =
+      rw (eqb-not x y (λ e. d (List·Memᴰ·head e))) (past-universals all us ds x r (λ q. d (List·Memᴰ·tail q)) h (earlier ++ (y ∷ [])))
 
-  universals-d : (es : List ℕ) → universalsOf (map (λ y. onD y (f y)) es) ≡ []
-  unfolding universalsOf
-  universals-d [] = refl
-  universals-d (y ∷ es) = universals-d es
+  module _ (f : ℕ → List ℕ) where
+    as-existential : (all es : List ℕ) (x : ℕ) → x ∈ es → (earlier : List ℕ) → declaredAs rule earlier all (map (λ y. onD y (f y)) es) x ≡ existential (f x)
+    unfolding declaredAs
+    as-existential all (y ∷ es) x (List·Memᴰ·head e) earlier = rw (e, eqb-same y)
+    as-existential all (y ∷ es) x (List·Memᴰ·tail q) earlier = go (eqb x y) refl (as-existential all es x q earlier)
+      where
+        go : (b : Bool) → eqb x y ≡ b → declaredAs rule earlier all (map (λ y. onD y (f y)) es) x ≡ existential (f x)
+            → cond b (existential (f y)) (declaredAs rule earlier all (map (λ y. onD y (f y)) es) x) ≡ existential (f x)
+        go true e h = ap (λ (z : ℕ). existential (f z)) (sym (eqb-is x y e))
+        go false e h = h
 
--- ---- a set of universals, as a number
+    as-undeclared : (all es : List ℕ) (x : ℕ) → (x ∈ es → ⊥) → (earlier : List ℕ) → declaredAs rule earlier all (map (λ y. onD y (f y)) es) x ≡ undeclared
+    unfolding declaredAs
+    as-undeclared all [] x d earlier = refl
+    as-undeclared all (y ∷ es) x d earlier = rw (eqb-not x y (λ e. d (List·Memᴰ·head e))) (as-undeclared all es x (λ q. d (List·Memᴰ·tail q)) earlier)
 
-word-in : (us S : List ℕ) (i : ℕ) → bit (wordOf us S) i ≡ true → (u : ℕ) × (u ∈ S) × (place us u ≡ i)
-unfolding wordOf
-word-in us [] i h = absurd (true≢false (sym h ∙ bit-zero i))
-word-in us (y ∷ ys) i h =
-    go (or-either (bit (2 ^ place us y) i) (bit (wordOf us ys) i) (sym (bit-or (2 ^ place us y) (wordOf us ys) i) ∙ h)) (λ k. word-in us ys i k)
-  where
-    go : (bit (2 ^ place us y) i ≡ true) ⊎ (bit (wordOf us ys) i ≡ true) → (bit (wordOf us ys) i ≡ true → (u : ℕ) × (u ∈ ys) × (place us u ≡ i)) → (u : ℕ) × (u ∈ y ∷ ys) × (place us u ≡ i)
-    go (inl k) ih = (y, List·Memᴰ·head refl, eqb-is (place us y) i (sym (bit-single (place us y) i) ∙ k))
-    go (inr k) ih = let r = ih k in (r .0, List·Memᴰ·tail (r .1), r .2)
+universals-d : (f : ℕ → List ℕ) (es : List ℕ) → universalsOf (map (λ y. onD y (f y)) es) ≡ []
+unfolding universalsOf
+universals-d f [] = refl
+universals-d f (y ∷ es) = universals-d f es
 
 -- ---- entries by their variables
 
@@ -112,23 +102,23 @@ module _ (room : Room) (m : Model) (v : Valid room m) where
   universals-are = universals-append (map onA us) (map (λ x. onD x (members x)) es) ∙ ap₂ {C = List ℕ} _++_ (universals-a us) (universals-d members es) ∙ append-nil us
 
   var-universal : (x : ℕ) → kindOf m x ≡ 1 → var φ x ≡ universal
-  unfolding var formulaOf
-  var-universal x k = as-universal [] (universals φ) us (map (λ x. onD x (members x)) es) x (universal-order room m v x k)
+  unfolding varBy formulaOf
+  var-universal x k = as-universal eSet [] (universals φ) us (map (λ x. onD x (members x)) es) x (universal-order room m v x k)
 
   not-universal : (x : ℕ) → kindOf m x ≢ 1 → x ∈ us → ⊥
   not-universal x d q = d (order-universal room m v x q)
 
   var-existential : (x : ℕ) → x ≢ 0 → x ≤ length (m .kinds) → kindOf m x ≡ 2 → var φ x ≡ existential (members x)
-  unfolding var formulaOf
+  unfolding varBy formulaOf
   var-existential x p l k =
-      past-universals (universals φ) us (map (λ x. onD x (members x)) es) x (existential (members x)) (not-universal x (λ e. omega arith))
-      (as-existential members (universals φ) es x (is-existential room m v x p l k)) []
+      past-universals eSet (universals φ) us (map (λ x. onD x (members x)) es) x (existential (members x)) (not-universal x (λ e. omega arith))
+      (as-existential eSet members (universals φ) es x (is-existential room m v x p l k)) []
 
   var-undeclared : (x : ℕ) → kindOf m x ≡ 0 → var φ x ≡ undeclared
-  unfolding var formulaOf
+  unfolding varBy formulaOf
   var-undeclared x k =
-      past-universals (universals φ) us (map (λ x. onD x (members x)) es) x undeclared (not-universal x (λ e. omega arith))
-      (as-undeclared members (universals φ) es x (λ q. let e = existential-is room m v x q .0 in omega arith)) []
+      past-universals eSet (universals φ) us (map (λ x. onD x (members x)) es) x undeclared (not-universal x (λ e. omega arith))
+      (as-undeclared eSet members (universals φ) es x (λ q. let e = existential-is room m v x q .0 in omega arith)) []
 
   -- the set word of the members of a set is the set
   word-is : (s : Set) → ((i : ℕ) → bit s i ≡ true → i < universalCount m) → wordOf us (membersOf m s) ≡ s
@@ -210,5 +200,5 @@ module _ (room : Room) (m : Model) (v : Valid room m) where
   clauses-restored = map-sorted (m .formula) (λ C q. sorted-same C (v .kept C (Memᴰ·append-left (m .derived) q) .ascends))
 
   pub restored : modelOf (formulaOf m) ≡ formulaPart m
-  unfolding modelOf formulaPart formulaOf
+  unfolding modelBy formulaPart formulaOf
   restored = same-parts kinds-restored sets-restored clauses-restored

@@ -1,12 +1,11 @@
 use borrow.Author.Needs.{needs}
 use mathlib.Core.Path.{_≡_, refl, ap, sym, _∙_}
 use borrow.Author.Tests.{not-false}
-use Rattle.dqdimacs.proofs.Laws.Loading.{load-short, load-over, load-refused, load-accepted, lent-first, lent-cleared, cleared-again, long-kept, finish-room}
+use Rattle.dqdimacs.proofs.Laws.Loading.{load-short, load-over, load-refused, load-accepted, lent-first, lent-cleared, cleared-again, long-kept}
 use Rattle.dqdimacs.proofs.load.Statement.{statement}
 use Rattle.dqdimacs.proofs.load.Tie as tie
 use Rattle.dqdimacs.proofs.load.Reads as reads
 use Rattle.dqdimacs.proofs.load.Lts as lts
-use Rattle.dqdimacs.proofs.finishing.finish.Reads as finish-reads
 use Rattle.texts.proofs.reading.read_lines.Reads as read-lines-reads
 use Rattle.dqdimacs.proofs.refused.Reads as refused-reads
 use Rattle.tables.proofs.formed.long_enough.Reads as long-enough-reads
@@ -52,52 +51,99 @@ same-length-8 : tie.Need-same-length-8
 same-length-8 c = c .before .before .before .before .before .before .before .before .before .clear .kept .1 .1 .1 .0
 
 returns-2 : tie.Need-returns-2
-returns-2 c = load-over _ _ (c .before .before .before .before .before .before .before .before .before .before .before .before .before .before .before .long-enough .ensures) (c .before .before .before .before .before .before .before .before .before .before .before .before .before .before .if1 .left) (c .before .before .before .before .before .before .before .before .before .clear .ensures) (c .before .if2 .taken) (c .refused2 .ensures)
+returns-2 c =
+    let cleared = c .before .before .before .before .before .before .before .before .before in
+    let tested = cleared .before .before .before .before .before .before in
+    load-over _ _ (tested .long-enough .ensures) (cleared .before .before .before .before .before .if1 .left) (cleared .clear .ensures) (c .before .if2 .taken) (c .refused2 .ensures)
 
 read-lines-requires : tie.Need-read-lines-requires
-read-lines-requires c κs = (c .before .before .before .before .if2 .left, lent-cleared _ (c .before .before .before .before .before .before .before .before .before .before .before .before .before .before .before .before .before .before .before .before .before .before .before .before .before .before .before .args .text .now) (c .before .before .before .before .before .before .before .before .before .before .before .before .before .before .before .before .before .before .long-enough .ensures) (c .before .before .before .before .before .before .before .before .before .before .before .before .before .before .before .before .before .if1 .left) (c .before .before .before .before .before .before .before .before .before .before .before .before .clear .ensures), cleared-again _ (c .before .before .before .before .before .before .before .before .before .before .before .before .before .before .before .before .before .before .before .before .before .before .before .before .before .before .before .args .text .now) (c .before .before .before .before .before .before .before .before .before .before .before .before .before .before .before .before .before .before .long-enough .ensures) (c .before .before .before .before .before .before .before .before .before .before .before .before .before .before .before .before .before .if1 .left) (c .before .before .before .before .before .before .before .before .before .before .before .before .clear .ensures))
+read-lines-requires c κs =
+    let cleared = c .before .before .before .before .before .before .before .before .before .before .before .before in
+    let tested = cleared .before .before .before .before .before .before in
+    let start = tested .before .before .before .before .before .before .before .before .before in
+    let text = start .args .text .now in
+    let lent = cleared .before .before .before .before .before .if1 .left in
+    (c .before .before .before .before .if2 .left, lent-cleared _ text (tested .long-enough .ensures) lent (cleared .clear .ensures), cleared-again _ text (tested .long-enough .ensures) lent (cleared .clear .ensures))
 
 clear-requires-2 : tie.Need-clear-requires-2
-clear-requires-2 c κs = long-kept _ (lent-cleared _ (c .before .before .before .before .before .before .before .before .before .before .before .before .before .before .before .before .before .before .before .before .before .before .before .before .before .before .before .before .before .before .before .before .before .before .before .before .before .before .before .before .before .args .text .now) (c .before .before .before .before .before .before .before .before .before .before .before .before .before .before .before .before .before .before .before .before .before .before .before .before .before .before .before .before .before .before .before .before .long-enough .ensures) (c .before .before .before .before .before .before .before .before .before .before .before .before .before .before .before .before .before .before .before .before .before .before .before .before .before .before .before .before .before .before .before .if1 .left) (c .before .before .before .before .before .before .before .before .before .before .before .before .before .before .before .before .before .before .before .before .before .before .before .before .before .before .clear .ensures)) _ _ _ _ (c .before .before .before .before .before .before .before .before .before .before .before .before .before .read-lines .kept .1 .0) (c .before .before .before .before .before .before .before .before .before .before .before .before .before .read-lines .kept .1 .1 .0) (c .before .before .before .before .before .before .before .before .before .before .before .before .before .read-lines .kept .1 .1 .1 .0) (c .before .before .before .before .before .before .before .before .before .before .before .before .before .read-lines .kept .1 .1 .1 .1 .0)
+clear-requires-2 c κs =
+    let lines = c .before .before .before .before .before .before .before .before .before .before .before .before .before in
+    let cleared = lines .before .before .before .before .before .before .before .before .before .before .before .before .before in
+    let tested = cleared .before .before .before .before .before .before in
+    let start = tested .before .before .before .before .before .before .before .before .before in
+    let kept = lines .read-lines .kept .1 in
+    long-kept _ (lent-cleared _ (start .args .text .now) (tested .long-enough .ensures) (cleared .before .before .before .before .before .if1 .left) (cleared .clear .ensures)) _ _ _ _ (kept .0) (kept .1 .0) (kept .1 .1 .0) (kept .1 .1 .1 .0)
 
 refused-requires-3 : tie.Need-refused-requires-3
 refused-requires-3 c κs = search needs
 
 same-length-9 : tie.Need-same-length-9
-same-length-9 c = c .before .before .before .before .before .before .before .before .clear2 .kept .0 ∙ c .before .before .before .before .before .before .before .before .before .before .before .before .before .before .before .before .before .before .before .before .before .before .read-lines .kept .1 .0 ∙ c .before .before .before .before .before .before .before .before .before .before .before .before .before .before .before .before .before .before .before .before .before .before .before .before .before .before .before .before .before .before .before .before .before .before .before .clear .kept .0
+same-length-9 c =
+    let erased = c .before .before .before .before .before .before .before .before in
+    let lines = erased .before .before .before .before .before .before .before .before .before .before .before .before .before .before in
+    let cleared = lines .before .before .before .before .before .before .before .before .before .before .before .before .before in
+    erased .clear2 .kept .0 ∙ lines .read-lines .kept .1 .0 ∙ cleared .clear .kept .0
 
 same-length-10 : tie.Need-same-length-10
-same-length-10 c = c .before .before .before .before .before .before .before .before .clear2 .kept .1 .0 ∙ c .before .before .before .before .before .before .before .before .before .before .before .before .before .before .before .before .before .before .before .before .before .before .read-lines .kept .1 .1 .0 ∙ c .before .before .before .before .before .before .before .before .before .before .before .before .before .before .before .before .before .before .before .before .before .before .before .before .before .before .before .before .before .before .before .before .before .before .before .clear .kept .1 .0
+same-length-10 c =
+    let erased = c .before .before .before .before .before .before .before .before in
+    let lines = erased .before .before .before .before .before .before .before .before .before .before .before .before .before .before in
+    let cleared = lines .before .before .before .before .before .before .before .before .before .before .before .before .before in
+    erased .clear2 .kept .1 .0 ∙ lines .read-lines .kept .1 .1 .0 ∙ cleared .clear .kept .1 .0
 
 same-length-11 : tie.Need-same-length-11
-same-length-11 c = c .before .before .before .before .before .before .before .before .clear2 .kept .1 .1 .0 ∙ c .before .before .before .before .before .before .before .before .before .before .before .before .before .before .before .before .before .before .before .before .before .before .read-lines .kept .1 .1 .1 .0 ∙ c .before .before .before .before .before .before .before .before .before .before .before .before .before .before .before .before .before .before .before .before .before .before .before .before .before .before .before .before .before .before .before .before .before .before .before .clear .kept .1 .1 .0
+same-length-11 c =
+    let erased = c .before .before .before .before .before .before .before .before in
+    let lines = erased .before .before .before .before .before .before .before .before .before .before .before .before .before .before in
+    let cleared = lines .before .before .before .before .before .before .before .before .before .before .before .before .before in
+    erased .clear2 .kept .1 .1 .0 ∙ lines .read-lines .kept .1 .1 .1 .0 ∙ cleared .clear .kept .1 .1 .0
 
 same-length-12 : tie.Need-same-length-12
-same-length-12 c = c .before .before .before .before .before .before .before .before .clear2 .kept .1 .1 .1 .0 ∙ c .before .before .before .before .before .before .before .before .before .before .before .before .before .before .before .before .before .before .before .before .before .before .read-lines .kept .1 .1 .1 .1 .0 ∙ c .before .before .before .before .before .before .before .before .before .before .before .before .before .before .before .before .before .before .before .before .before .before .before .before .before .before .before .before .before .before .before .before .before .before .before .clear .kept .1 .1 .1 .0
+same-length-12 c =
+    let erased = c .before .before .before .before .before .before .before .before in
+    let lines = erased .before .before .before .before .before .before .before .before .before .before .before .before .before .before in
+    let cleared = lines .before .before .before .before .before .before .before .before .before .before .before .before .before in
+    erased .clear2 .kept .1 .1 .1 .0 ∙ lines .read-lines .kept .1 .1 .1 .1 .0 ∙ cleared .clear .kept .1 .1 .1 .0
 
 returns-3 : tie.Need-returns-3
-returns-3 c = load-refused _ _ (c .before .before .before .before .before .before .before .before .before .before .before .before .before .before .before .before .before .before .before .before .before .before .before .before .before .before .before .before .before .before .before .before .before .before .before .before .before .before .before .before .before .long-enough .ensures) (c .before .before .before .before .before .before .before .before .before .before .before .before .before .before .before .before .before .before .before .before .before .before .before .before .before .before .before .before .before .before .before .before .before .before .before .before .before .before .before .before .if1 .left) (c .before .before .before .before .before .before .before .before .before .before .before .before .before .before .before .before .before .before .before .before .before .before .before .before .before .before .before .before .before .before .before .before .before .before .before .clear .ensures) (c .before .before .before .before .before .before .before .before .before .before .before .before .before .before .before .before .before .before .before .before .before .before .before .before .before .before .before .if2 .left) (c .before .before .before .before .before .before .before .before .before .before .before .before .before .before .before .before .before .before .before .before .before .before .read-lines .ensures) (c .before .before .before .before .before .before .before .before .before .before .before .before .before .if3 .taken) (c .before .before .before .before .before .before .before .before .clear2 .ensures) (c .refused3 .ensures)
-
-cast-finish : tie.Need-cast-finish
-cast-finish c = search needs
-
-finish-requires : tie.Need-finish-requires
-finish-requires c κs = finish-room (c .before .before .before .before .before .before .before .before .before .before .before .before .before .before .before .read-lines .ensures) (c .before .before .before .before .before .before .if3 .left)
+returns-3 c =
+    let erased = c .before .before .before .before .before .before .before .before in
+    let lines = erased .before .before .before .before .before .before .before .before .before .before .before .before .before .before in
+    let cleared = lines .before .before .before .before .before .before .before .before .before .before .before .before .before in
+    let tested = cleared .before .before .before .before .before .before in
+    load-refused _ _ (tested .long-enough .ensures) (cleared .before .before .before .before .before .if1 .left) (cleared .clear .ensures) (lines .before .before .before .before .before .if2 .left) (lines .read-lines .ensures)
+    (erased .before .before .before .before .before .if3 .taken) (erased .clear2 .ensures) (c .refused3 .ensures)
 
 same-length-13 : tie.Need-same-length-13
-same-length-13 c = c .before .before .before .before .before .before .before .before .before .before .before .before .before .before .before .before .before .before .before .before .read-lines .kept .1 .0 ∙ c .before .before .before .before .before .before .before .before .before .before .before .before .before .before .before .before .before .before .before .before .before .before .before .before .before .before .before .before .before .before .before .before .before .clear .kept .0
+same-length-13 c =
+    let lines = c .before .before .before .before .before .before .before .before .before .before .before in
+    let cleared = lines .before .before .before .before .before .before .before .before .before .before .before .before .before in
+    lines .read-lines .kept .1 .0 ∙ cleared .clear .kept .0
 
 same-length-14 : tie.Need-same-length-14
-same-length-14 c = c .before .before .before .before .before .before .before .before .before .before .before .before .before .before .before .before .before .before .before .before .read-lines .kept .1 .1 .0 ∙ c .before .before .before .before .before .before .before .before .before .before .before .before .before .before .before .before .before .before .before .before .before .before .before .before .before .before .before .before .before .before .before .before .before .clear .kept .1 .0
+same-length-14 c =
+    let lines = c .before .before .before .before .before .before .before .before .before .before .before in
+    let cleared = lines .before .before .before .before .before .before .before .before .before .before .before .before .before in
+    lines .read-lines .kept .1 .1 .0 ∙ cleared .clear .kept .1 .0
 
 same-length-15 : tie.Need-same-length-15
-same-length-15 c = c .before .before .before .before .finish .kept .1 .1 .0 ∙ c .before .before .before .before .before .before .before .before .before .before .before .before .before .before .before .before .before .before .before .before .read-lines .kept .1 .1 .1 .0 ∙ c .before .before .before .before .before .before .before .before .before .before .before .before .before .before .before .before .before .before .before .before .before .before .before .before .before .before .before .before .before .before .before .before .before .clear .kept .1 .1 .0
+same-length-15 c =
+    let lines = c .before .before .before .before .before .before .before .before .before .before .before in
+    let cleared = lines .before .before .before .before .before .before .before .before .before .before .before .before .before in
+    lines .read-lines .kept .1 .1 .1 .0 ∙ cleared .clear .kept .1 .1 .0
 
 same-length-16 : tie.Need-same-length-16
-same-length-16 c = c .before .before .before .before .finish .kept .1 .1 .1 .0 ∙ c .before .before .before .before .before .before .before .before .before .before .before .before .before .before .before .before .before .before .before .before .read-lines .kept .1 .1 .1 .1 .0 ∙ c .before .before .before .before .before .before .before .before .before .before .before .before .before .before .before .before .before .before .before .before .before .before .before .before .before .before .before .before .before .before .before .before .before .clear .kept .1 .1 .1 .0
+same-length-16 c =
+    let lines = c .before .before .before .before .before .before .before .before .before .before .before in
+    let cleared = lines .before .before .before .before .before .before .before .before .before .before .before .before .before in
+    lines .read-lines .kept .1 .1 .1 .1 .0 ∙ cleared .clear .kept .1 .1 .1 .0
 
 returns-4 : tie.Need-returns-4
-returns-4 c = load-accepted _ _ (c .before .before .before .before .before .before .before .before .before .before .before .before .before .before .before .before .before .before .before .before .before .before .before .before .before .before .before .before .before .before .before .before .before .before .before .before .before .before .before .long-enough .ensures) (c .before .before .before .before .before .before .before .before .before .before .before .before .before .before .before .before .before .before .before .before .before .before .before .before .before .before .before .before .before .before .before .before .before .before .before .before .before .before .if1 .left) (c .before .before .before .before .before .before .before .before .before .before .before .before .before .before .before .before .before .before .before .before .before .before .before .before .before .before .before .before .before .before .before .before .before .clear .ensures) (c .before .before .before .before .before .before .before .before .before .before .before .before .before .before .before .before .before .before .before .before .before .before .before .before .before .if2 .left) (c .before .before .before .before .before .before .before .before .before .before .before .before .before .before .before .before .before .before .before .before .read-lines .ensures) (c .before .before .before .before .before .before .before .before .before .before .before .if3 .left) (c .before .before .before .before .finish .ensures)
+returns-4 c =
+    let lines = c .before .before .before .before .before .before .before .before .before .before .before in
+    let cleared = lines .before .before .before .before .before .before .before .before .before .before .before .before .before in
+    let tested = cleared .before .before .before .before .before .before in
+    load-accepted _ _ (tested .long-enough .ensures) (cleared .before .before .before .before .before .if1 .left) (cleared .clear .ensures) (lines .before .before .before .before .before .if2 .left) (lines .read-lines .ensures) (c .before .before .if3 .left)
 
 pub load-spec : {M : Type 1} → statement M
 load-spec =
@@ -125,8 +171,6 @@ load-spec =
     same-length-11
     same-length-12
     returns-3
-    cast-finish
-    finish-requires
     same-length-13
     same-length-14
     same-length-15

@@ -19,8 +19,8 @@ use Rattle.dqbf.specs.Limits.{variableLimit, universalLimit}
 use Rattle.dqbf.specs.Refusal.{first}
 use Rattle.dqbf.specs.Literal.{_∈_, sorted}
 use Rattle.dqbf.specs.Set.{Set, single, union}
-use Rattle.dqbf.specs.Formula.{Declaration, onA, onE, onD, Formula, universals, universalsOf, declared}
-use Rattle.dqbf.specs.Model.{Model, clauses, place, wordOf, universalCount}
+use Rattle.dqbf.specs.Formula.{Declaration, onA, onE, onD, Formula, universals, universalsOf, declared, var}
+use Rattle.dqbf.specs.Model.{Model, clauses, place, wordOf, kindFor, setFor, modelBy, modelOf, universalCount}
 use Rattle.dqbf.specs.Reading.{Form, aLine, eLine, dLine, Phase, opening, prefixLines, clauseLines, Reader, takesPrefix, elem, different, fresh, undeclarable, lineTests, declaring, taken}
 use Rattle.dqbf.proofs.Laws.Tests.{either, and-left, and-right, leb-yes, never, pass, no-not, ltb-yes, ltb-no}
 use Rattle.dqbf.proofs.Laws.Counting.{in-elem, elem-in}
@@ -29,35 +29,34 @@ use Rattle.tables.specs.Tables.{Tables, tablesOf}
 use Rattle.tables.specs.Spread.{over, spread, stateOf, kindRow, setRow}
 use Rattle.tables.specs.declared.State.{State}
 use Rattle.tables.proofs.Laws.Rows.{over-set}
-use Rattle.prefix_lines.specs.Pending.{subject, kindWhile, setWhile, given, pendingKind, pending}
 use Rattle.prefix_lines.specs.Rows.{declarable}
 use Rattle.prefix_lines.specs.Lines.{phaseNumber, progressOf, universalAdded, onLine, ReadSoFar, DeclaredAll, OneMore}
 use Rattle.prefix_lines.specs.declared.progress.Progress.{Progress}
 use Rattle.prefix_lines.specs.declared.progress.LineAnswer.{LineAnswer}
 use Rattle.prefix_lines.proofs.Laws.Rows.{row-length, row-at}
-use Rattle.prefix_lines.proofs.Laws.Pending.{kind-declared, place-new, places-more}
-use Rattle.prefix_lines.proofs.Laws.Models.{pending-kinds, pending-sets, pending-universals, declaringTo, kinds-declared, sets-declared, map-more}
-use Rattle.prefix_lines.proofs.Laws.Reading.{countsOf, pending-state, phase-is, count-is, places-is, state-is, bound-is, universals-is, framed, kinds-over, sets-over}
+use Rattle.prefix_lines.proofs.Laws.Variables.{subject, made, declaringTo, kind-declared, place-new, places-more}
+use Rattle.prefix_lines.proofs.Laws.Models.{model-kinds, model-sets, model-universals, kinds-declared, sets-declared, map-more}
+use Rattle.prefix_lines.proofs.Laws.Reading.{countsOf, model-state, phase-is, count-is, places-is, state-is, bound-is, universals-is, framed, kinds-over, sets-over}
 use Rattle.prefix_lines.proofs.Laws.Fresh.{fresh-one, fresh-low, fresh-new, fresh-next, fresh-stop, many-fresh}
 
 -- ---- the test of one variable
 
 module _ {t : Tables} {r : Reader} {p : Progress} {now : Tables} (h : ReadSoFar t r p now) (x : ℕ) (some : x ≡ 0 → ⊥) where
-  kind-at : x ≤ r .formula .bound → getD (now .kinds) (x - 1) 0 ≡ pendingKind (r .formula .prefix) x
+  kind-at : x ≤ r .formula .bound → getD (now .kinds) (x - 1) 0 ≡ kindFor (var (r .formula) x)
   kind-at low = go x some low
     where
-      go : (x : ℕ) → (x ≡ 0 → ⊥) → x ≤ r .formula .bound → getD (now .kinds) (x - 1) 0 ≡ pendingKind (r .formula .prefix) x
+      go : (x : ℕ) → (x ≡ 0 → ⊥) → x ≤ r .formula .bound → getD (now .kinds) (x - 1) 0 ≡ kindFor (var (r .formula) x)
       go zero n l = absurd (n refl)
       go (suc i) n l =
           rw (sub-one, kinds-over h)
-          (unfold over pending in List·getD-append (pending (r .formula) .kinds) _ 0 i (omega (arith, pending-kinds (r .formula))) ∙ row-at (pendingKind (r .formula .prefix)) (r .formula .bound) i l)
+          (unfold over modelBy in List·getD-append (modelOf (r .formula) .kinds) _ 0 i (omega (arith, model-kinds (r .formula))) ∙ row-at (λ y. kindFor (var (r .formula) y)) (r .formula .bound) i l)
 
   pub declarable-told : declarable (p .state .bound .0) (now .kinds) x ≡ fresh (r .formula .bound) (declared (r .formula .prefix)) (x ∷ [])
   unfolding declarable
   declarable-told = rw (bound-is h, fresh-one (r .formula .bound) (declared (r .formula .prefix)) x) (go (leb x (r .formula .bound)) refl)
     where
       go : (b : Bool) → leb x (r .formula .bound) ≡ b → (b && eqb (getD (now .kinds) (x - 1) 0) 0) ≡ (b && not (elem x (declared (r .formula .prefix))))
-      go true e = ap (λ k. eqb k 0) (kind-at (leb-yes x (r .formula .bound) e)) ∙ kind-declared (r .formula .prefix) x
+      go true e = ap (λ k. eqb k 0) (kind-at (leb-yes x (r .formula .bound) e)) ∙ kind-declared (r .formula) x
       go false e = refl
 
 -- an undeclared variable is no universal
@@ -78,8 +77,8 @@ module _ {t : Tables} {r : Reader} {p : Progress} {now : Tables} (h : ReadSoFar 
   sane : Sane (declaring r (d ∷ []))
   sane = rw is at (sane-form r f positive passes (h .sane))
 
-  declared-tables : {sets kinds : List ℕ} → sets ≡ set (now .sets) (subject d - 1) (setWhile us d) → kinds ≡ set (now .kinds) (subject d - 1) (kindWhile d)
-      → tablesOf (now .literals) (now .ends) sets kinds ≡ spread (pending (declaringTo φ d)) t
+  declared-tables : {sets kinds : List ℕ} → sets ≡ set (now .sets) (subject d - 1) (setFor us (subject d) (made (universals (r .formula)) d)) → kinds ≡ set (now .kinds) (subject d - 1) (kindFor (made (universals (r .formula)) d))
+      → tablesOf (now .literals) (now .ends) sets kinds ≡ spread (modelOf (declaringTo φ d)) t
   unfolding spread
   declared-tables {sets} {kinds} e k = λ i. record {
     literals = (ap (λ (x : Tables). x .literals) (h .tables) ∙ rows) i;
@@ -91,33 +90,33 @@ module _ {t : Tables} {r : Reader} {p : Progress} {now : Tables} (h : ReadSoFar 
       place : subject d - 1 < φ .bound
       place = omega (arith, some)
 
-      rows : spread (pending φ) t .literals ≡ spread (pending (declaringTo φ d)) t .literals
-      rows = unfold spread clauses pending in refl
+      rows : spread (modelOf φ) t .literals ≡ spread (modelOf (declaringTo φ d)) t .literals
+      rows = unfold spread clauses modelBy in refl
 
-      ends : spread (pending φ) t .ends ≡ spread (pending (declaringTo φ d)) t .ends
-      ends = unfold spread clauses pending in refl
+      ends : spread (modelOf φ) t .ends ≡ spread (modelOf (declaringTo φ d)) t .ends
+      ends = unfold spread clauses modelBy in refl
 
-      sets-now : sets ≡ over variableLimit 0 (setRow (pending (declaringTo φ d))) (t .sets)
+      sets-now : sets ≡ over variableLimit 0 (setRow (modelOf (declaringTo φ d))) (t .sets)
       sets-now =
-          e ∙ rw (sets-over h, over-set 0 variableLimit (pending φ .sets) (t .sets) (subject d - 1) (setWhile us d) (omega (arith, pending-sets φ)), ← sets-declared φ d some low new (h .sane .lists))
-          (ap (λ (l : List Set). over variableLimit 0 l (t .sets)) (unfold setRow pending in sym (append-nil (pending (declaringTo φ d) .sets))))
+          e ∙ rw (sets-over h, over-set 0 variableLimit (modelOf φ .sets) (t .sets) (subject d - 1) (setFor us (subject d) (made (universals (r .formula)) d)) (omega (arith, model-sets φ)), ← sets-declared φ d some low new (h .sane .lists))
+          (ap (λ (l : List Set). over variableLimit 0 l (t .sets)) (unfold setRow modelBy in sym (append-nil (modelOf (declaringTo φ d) .sets))))
 
-      kinds-now : kinds ≡ over variableLimit 0 (kindRow (pending (declaringTo φ d))) (t .kinds)
+      kinds-now : kinds ≡ over variableLimit 0 (kindRow (modelOf (declaringTo φ d))) (t .kinds)
       kinds-now =
-          k ∙ rw (kinds-over h, over-set 0 variableLimit (pending φ .kinds) (t .kinds) (subject d - 1) (kindWhile d) (omega (arith, pending-kinds φ)), ← kinds-declared φ d some low new)
-          (ap (λ (l : List ℕ). over variableLimit 0 l (t .kinds)) (unfold kindRow pending in sym (append-nil (pending (declaringTo φ d) .kinds))))
+          k ∙ rw (kinds-over h, over-set 0 variableLimit (modelOf φ .kinds) (t .kinds) (subject d - 1) (kindFor (made (universals (r .formula)) d)) (omega (arith, model-kinds φ)), ← kinds-declared φ d some low new)
+          (ap (λ (l : List ℕ). over variableLimit 0 l (t .kinds)) (unfold kindRow modelBy in sym (append-nil (modelOf (declaringTo φ d) .kinds))))
 
   progress-declared : {q : Progress} → q .phase ≡ 1 → q .count ≡ r .count → q .places ≡ wordOf us us → q .state ≡ countsOf (φ .bound) (length us) (map sorted (φ .clauses))
       → q ≡ progressOf (declaring r (d ∷ []))
   unfolding progressOf declaring phaseNumber
   progress-declared {q} a b c e =
       let w : wordOf us us ≡ wordOf (universalsOf (φ .prefix ++ (d ∷ []))) (universalsOf (φ .prefix ++ (d ∷ []))) = rw (universals-append (φ .prefix) (d ∷ [])) in
-      let n : length us ≡ universalCount (pending (declaringTo φ d)) = ap length (sym (universals-append (φ .prefix) (d ∷ []))) ∙ sym (pending-universals (declaring r (d ∷ [])) sane) in
-      let s : q .state ≡ stateOf (pending (declaringTo φ d)) = e ∙ ap (λ m. countsOf (φ .bound) m (map sorted (φ .clauses))) n ∙ sym (pending-state (declaringTo φ d)) in
+      let n : length us ≡ universalCount (modelOf (declaringTo φ d)) = ap length (sym (universals-append (φ .prefix) (d ∷ []))) ∙ sym (model-universals (declaring r (d ∷ [])) sane) in
+      let s : q .state ≡ stateOf (modelOf (declaringTo φ d)) = e ∙ ap (λ m. countsOf (φ .bound) m (map sorted (φ .clauses))) n ∙ sym (model-state (declaringTo φ d)) in
       λ i. record { phase = a i; count = b i; places = (c ∙ w) i; state = s i }
 
-  pub read-declared : {q : Progress} {sets kinds : List ℕ} → q ≡ progressOf (declaring r (d ∷ [])) → sets ≡ set (now .sets) (subject d - 1) (setWhile us d)
-      → kinds ≡ set (now .kinds) (subject d - 1) (kindWhile d) → ReadSoFar t (declaring r (d ∷ [])) q (tablesOf (now .literals) (now .ends) sets kinds)
+  pub read-declared : {q : Progress} {sets kinds : List ℕ} → q ≡ progressOf (declaring r (d ∷ [])) → sets ≡ set (now .sets) (subject d - 1) (setFor us (subject d) (made (universals (r .formula)) d))
+      → kinds ≡ set (now .kinds) (subject d - 1) (kindFor (made (universals (r .formula)) d)) → ReadSoFar t (declaring r (d ∷ [])) q (tablesOf (now .literals) (now .ends) sets kinds)
   unfolding declaring
   read-declared a e k = record {
     lent = h .lent;
@@ -186,7 +185,7 @@ module _ {t : Tables} {r : Reader} {p : Progress} {now : Tables} (h : ReadSoFar 
 
     pub one-universal : {q : Progress} {s : Set} {sets kinds : List ℕ} → p .state .universals < universalLimit → s ≡ single (p .state .universals) → sets ≡ cond b (set (now .sets) (x - 1) s) (now .sets)
         → kinds ≡ cond b (set (now .kinds) (x - 1) 1) (now .kinds) → q ≡ universalAdded p s → DeclaredAll true (x ∷ []) t r (record { progress = q; refusal = 0 }) (tablesOf (now .literals) (now .ends) sets kinds)
-    unfolding onLine taken subject setWhile kindWhile universalsOf newOn
+    unfolding onLine taken subject made setFor kindFor universalsOf newOn
     one-universal {q} {s} {sets} {kinds} u w m k f =
         let own : s ≡ single (place (universals (r .formula) ++ (x ∷ [])) x) =
         w ∙ ap single (universals-is h ∙ sym (place-new (universals (r .formula)) x (not-universal (r .formula .prefix) x new))) in
@@ -200,12 +199,14 @@ module _ {t : Tables} {r : Reader} {p : Progress} {now : Tables} (h : ReadSoFar 
         new : elem x (declared (r .formula .prefix)) ≡ false
         new = fresh-new (r .formula .bound) (declared (r .formula .prefix)) x ok
 
-    pub one-existential : {sets kinds : List ℕ} → sets ≡ cond b (set (now .sets) (x - 1) 0) (now .sets) → kinds ≡ cond b (set (now .kinds) (x - 1) 4) (now .kinds)
+    pub one-existential : {sets kinds : List ℕ} → sets ≡ cond b (set (now .sets) (x - 1) (p .places)) (now .sets) → kinds ≡ cond b (set (now .kinds) (x - 1) 2) (now .kinds)
         → DeclaredAll false (x ∷ []) t r (record { progress = p; refusal = 0 }) (tablesOf (now .literals) (now .ends) sets kinds)
-    unfolding onLine taken subject setWhile kindWhile universalsOf newOn
+    unfolding onLine taken subject made setFor kindFor universalsOf newOn
     one-existential m k =
+        let us = universals (r .formula) in
+        let own : p .places ≡ wordOf (us ++ []) us = places-is h ∙ ap (λ (l : List ℕ). wordOf l us) (sym (append-nil us)) in
         let done = read-declared h (onE x) (eLine (x ∷ [])) refl passes-e positive some low new
-        (progress-other h (onE x) (eLine (x ∷ [])) refl passes-e positive some low new refl inside) (rw (not-false b e) at m) (rw (not-false b e) at k) in
+        (progress-other h (onE x) (eLine (x ∷ [])) refl passes-e positive some low new refl inside) (rw (not-false b e) at m ∙ rw own) (rw (not-false b e) at k) in
         record { told = rw ok; held = λ z. done; framed = framed done }
       where
         low : x ≤ r .formula .bound

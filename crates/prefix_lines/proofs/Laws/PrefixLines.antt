@@ -18,8 +18,8 @@ use Rattle.dqbf.specs.Limits.{universalLimit}
 use Rattle.dqbf.specs.Refusal.{refusal, first, _when_}
 use Rattle.dqbf.specs.Literal.{_∈_}
 use Rattle.dqbf.specs.Set.{Set, single, union}
-use Rattle.dqbf.specs.Formula.{Declaration, onA, onE, onD, Formula, universals, universalsOf, declared}
-use Rattle.dqbf.specs.Model.{Model, place, wordOf}
+use Rattle.dqbf.specs.Formula.{Declaration, onA, onE, onD, Formula, universals, universalsOf, declared, var}
+use Rattle.dqbf.specs.Model.{Model, place, wordOf, kindFor, setFor}
 use Rattle.dqbf.specs.Reading.{Form, aLine, eLine, dLine, Phase, prefixLines, Reader, takesPrefix, elem, allIn, different, fresh, undeclarable, lineTests, declaring, taken}
 use Rattle.dqbf.proofs.Laws.Tests.{and-left, and-right, eqb-is, never, pass, no-not, no-or, or-left, or-right}
 use Rattle.dqbf.proofs.Reading.Lines.{newOn, universals-append, universals-a}
@@ -28,12 +28,11 @@ use Rattle.ranks.proofs.Laws.Insertion.{all-grows}
 use Rattle.ranks.proofs.Laws.Sorting.{universals-count, universals-front}
 use Rattle.tables.specs.Tables.{Tables, tablesOf, entry}
 use Rattle.tables.specs.WellFormed.{allOf}
-use Rattle.prefix_lines.specs.Pending.{subject, kindWhile, setWhile, given, pendingKind, pendingSet, pending}
 use Rattle.prefix_lines.specs.Rows.{declarable, isUniversal, unionOf}
 use Rattle.prefix_lines.specs.Lines.{phaseNumber, progressOf, refusalOf, onLine, ReadSoFar, Known, LineRead, DeclaredAll}
 use Rattle.prefix_lines.specs.declared.progress.Progress.{Progress}
 use Rattle.prefix_lines.specs.declared.progress.LineAnswer.{LineAnswer}
-use Rattle.prefix_lines.proofs.Laws.Pending.{kind-universal, set-universal}
+use Rattle.prefix_lines.proofs.Laws.Variables.{subject, made, kind-universal, set-universal}
 use Rattle.prefix_lines.proofs.Laws.Models.{kind-entry, set-entry}
 use Rattle.prefix_lines.proofs.Laws.Reading.{phase-is, phase-prefix, phase-other, universals-is, framed, kinds-front, sets-front}
 use Rattle.prefix_lines.proofs.Laws.Fresh.{fresh-low, fresh-new, many-fresh}
@@ -53,7 +52,7 @@ module _ (r : Reader) where
 module _ {t : Tables} {r : Reader} {p : Progress} {now : Tables} (h : ReadSoFar t r p now) where
   universal-told : (x : ℕ) → isUniversal (take (p .state .bound .0) (now .kinds)) x ≡ elem x (us r)
   unfolding isUniversal
-  universal-told x = rw (kinds-front h, kind-entry r (h .sane) x) (kind-universal (r .formula .prefix) x (h .sane .once))
+  universal-told x = rw (kinds-front h, kind-entry r (h .sane) x) (kind-universal (r .formula) x (h .sane .once))
 
   pub universals-told : (S : List ℕ) → allOf (isUniversal (take (p .state .bound .0) (now .kinds))) S ≡ allIn (us r) S
   unfolding allOf allIn
@@ -62,8 +61,8 @@ module _ {t : Tables} {r : Reader} {p : Progress} {now : Tables} (h : ReadSoFar 
 
   set-told : (x : ℕ) → elem x (us r) ≡ true → entry (take (p .state .bound .0) (now .sets)) x ≡ single (place (us r) x)
   set-told x e =
-      let k = eqb-is (pendingKind (r .formula .prefix) x) 1 (kind-universal (r .formula .prefix) x (h .sane .once) ∙ e) in
-      rw (sets-front h, set-entry r (h .sane) x) (set-universal (us r) (r .formula .prefix) x k)
+      let k = eqb-is (kindFor (var (r .formula) x)) 1 (kind-universal (r .formula) x (h .sane .once) ∙ e) in
+      rw (sets-front h, set-entry r (h .sane) x) (set-universal (us r) x (var (r .formula) x) k)
 
   pub union-told : (S : List ℕ) → allIn (us r) S ≡ true → unionOf (take (p .state .bound .0) (now .sets)) S ≡ wordOf (us r) S
   unfolding unionOf wordOf allIn
@@ -143,7 +142,7 @@ module _ {t : Tables} {r : Reader} {p : Progress} {now : Tables} (h : ReadSoFar 
 
           pub d-read : {sets kinds : List ℕ} → sets ≡ cond a (set (now .sets) (x - 1) s) (now .sets) → kinds ≡ cond a (set (now .kinds) (x - 1) 2) (now .kinds)
               → LineRead t r (dLine x S) (record { progress = p; refusal = 0 }) (tablesOf (now .literals) (now .ends) sets kinds)
-          unfolding taken subject setWhile kindWhile universalsOf newOn refusalOf
+          unfolding taken subject made setFor kindFor universalsOf newOn refusalOf
           d-read m k =
               let own : s ≡ wordOf (us r ++ []) S = word ∙ union-told S known ∙ ap (λ (l : List ℕ). wordOf l S) (sym (append-nil (us r))) in
               line-taken passes

@@ -1,5 +1,5 @@
 -- What the tables and the counts say of the reader that they hold (`ReadSoFar`).
---     countsOf, pending-state, model-state     the state of a model that is read
+--     countsOf, model-state                    the state of a model that is read
 --     bound-is, universals-is, ..              the counts
 --     kinds-front, sets-front, ..              the entries in use
 --     long-now, framed                         the tables are long enough, and their entries past the stated sizes as they were
@@ -15,7 +15,7 @@ use Rattle.dqbf.specs.Limits.{clauseLimit, literalLimit, variableLimit, univers
 use Rattle.dqbf.specs.Literal.{Clause, sorted, total}
 use Rattle.dqbf.specs.Set.{Set}
 use Rattle.dqbf.specs.Formula.{Formula, universals}
-use Rattle.dqbf.specs.Model.{Model, clauses, used, steps, universalCount, emptyFrom, lowestEmpty, modelOf, wordOf}
+use Rattle.dqbf.specs.Model.{Model, clauses, steps, universalCount, emptyFrom, lowestEmpty, modelBy, modelOf, wordOf}
 use Rattle.dqbf.specs.Reading.{Reader, isOpening, takesPrefix, takesClauses, Phase, opening, prefixLines, clauseLines}
 use Rattle.dqbf.proofs.Reading.Lines.{Sane}
 use Rattle.tables.specs.Tables.{Tables, tablesOf}
@@ -25,11 +25,9 @@ use Rattle.tables.specs.declared.State.{State}
 use Rattle.tables.proofs.Laws.Cuts.{flat-length, ends-length}
 use Rattle.tables.proofs.Laws.Rows.{over-length, over-take, over-over}
 use Rattle.tables.proofs.Laws.Formed.{Long, long-is}
-use Rattle.prefix_lines.specs.Pending.{pending}
 use Rattle.prefix_lines.specs.Lines.{phaseNumber, progressOf, ReadSoFar, Framed}
 use Rattle.prefix_lines.specs.declared.progress.Progress.{Progress}
-use Rattle.prefix_lines.proofs.Laws.Models.{pending-kinds, pending-sets, pending-clauses, pending-used, pending-universals}
-use Rattle.prefix_lines.proofs.Laws.Finishing.{final-kinds, final-universals}
+use Rattle.prefix_lines.proofs.Laws.Models.{model-kinds, model-sets, model-clauses, model-used, model-universals}
 
 -- ---- the state
 
@@ -46,18 +44,12 @@ countsOf v n Cs = record {
   empty = record { 0 = emptyFrom 1 Cs };
 }
 
-pub pending-state : (φ : Formula) → stateOf (pending φ) ≡ countsOf (φ .bound) (universalCount (pending φ)) (map sorted (φ .clauses))
+pub model-state : (φ : Formula) → stateOf (modelOf φ) ≡ countsOf (φ .bound) (universalCount (modelOf φ)) (map sorted (φ .clauses))
 unfolding stateOf lowestEmpty
-pending-state φ =
-    let d : length (pending φ .formula) ≡ length (map sorted (φ .clauses)) = unfold pending in refl in
-    let e : steps (pending φ) ≡ 0 = unfold steps pending in refl in
-    rw (pending-kinds φ, pending-used φ, pending-clauses φ, d, e)
-
-pub model-state : (φ : Formula) → stateOf (modelOf φ) ≡ stateOf (pending φ)
-unfolding stateOf used steps universalCount lowestEmpty clauses
 model-state φ =
-    let k : modelOf φ .kinds ≡ map _ (pending φ .kinds) = sym (final-kinds φ) in
-    rw (k, final-universals (pending φ .kinds), length-map (pending φ .kinds) _) (unfold pending modelOf in refl)
+    let d : length (modelOf φ .formula) ≡ length (map sorted (φ .clauses)) = unfold modelBy in refl in
+    let e : steps (modelOf φ) ≡ 0 = unfold steps modelBy in refl in
+    rw (model-kinds φ, model-used φ, model-clauses φ, d, e)
 
 -- ---- the phase, by its number
 
@@ -119,8 +111,8 @@ module _ {t : Tables} {r : Reader} {p : Progress} {now : Tables} (h : ReadSoFar 
   pub state-is : p .state ≡ countsOf (φ .bound) (length (universals φ)) (map sorted (φ .clauses))
   unfolding progressOf
   state-is =
-      ap (λ (q : Progress). q .state) (h .progress) ∙ pending-state φ
-      ∙ ap (λ n. countsOf (φ .bound) n (map sorted (φ .clauses))) (pending-universals r (h .sane))
+      ap (λ (q : Progress). q .state) (h .progress) ∙ model-state φ
+      ∙ ap (λ n. countsOf (φ .bound) n (map sorted (φ .clauses))) (model-universals r (h .sane))
 
   pub bound-is : p .state .bound .0 ≡ φ .bound
   bound-is = ap (λ (s : State). s .bound .0) state-is
@@ -139,52 +131,52 @@ module _ {t : Tables} {r : Reader} {p : Progress} {now : Tables} (h : ReadSoFar 
 
   -- ---- rows
 
-  kinds-fit : length (kindRow (pending φ)) ≤ variableLimit
-  unfolding kindRow pending
-  kinds-fit = rw (append-nil (pending φ .kinds)) (omega (arith, pending-kinds φ, h .sane .small))
+  kinds-fit : length (kindRow (modelOf φ)) ≤ variableLimit
+  unfolding kindRow modelBy
+  kinds-fit = rw (append-nil (modelOf φ .kinds)) (omega (arith, model-kinds φ, h .sane .small))
 
-  sets-fit : length (setRow (pending φ)) ≤ variableLimit
-  unfolding setRow pending
-  sets-fit = rw (append-nil (pending φ .sets)) (omega (arith, pending-sets φ, h .sane .small))
+  sets-fit : length (setRow (modelOf φ)) ≤ variableLimit
+  unfolding setRow modelBy
+  sets-fit = rw (append-nil (modelOf φ .sets)) (omega (arith, model-sets φ, h .sane .small))
 
-  literals-fit : length (flat (clauses (pending φ))) ≤ literalLimit
-  literals-fit = omega (arith, flat-length (clauses (pending φ)), ap total (pending-clauses φ), h .sane .light)
+  literals-fit : length (flat (clauses (modelOf φ))) ≤ literalLimit
+  literals-fit = omega (arith, flat-length (clauses (modelOf φ)), ap total (model-clauses φ), h .sane .light)
 
-  ends-fit : length (endsFrom 0 (clauses (pending φ))) ≤ clauseLimit
-  ends-fit = omega (arith, ends-length 0 (clauses (pending φ)), ap (λ (Cs : List Clause). length Cs) (pending-clauses φ), length-map (φ .clauses) sorted, h .few, h .sane .few)
+  ends-fit : length (endsFrom 0 (clauses (modelOf φ))) ≤ clauseLimit
+  ends-fit = omega (arith, ends-length 0 (clauses (modelOf φ)), ap (λ (Cs : List Clause). length Cs) (model-clauses φ), length-map (φ .clauses) sorted, h .few, h .sane .few)
 
   pub long-now : Long now
   unfolding spread
   long-now =
       let l = long-is t (h .lent) in
       rw (h .tables) (record {
-        literals = omega (arith, over-length (pos 0) literalLimit (flat (clauses (pending φ))) (t .literals) literals-fit (l .literals));
-        ends = omega (arith, over-length 0 clauseLimit (endsFrom 0 (clauses (pending φ))) (t .ends) ends-fit (l .ends));
-        sets = omega (arith, over-length 0 variableLimit (setRow (pending φ)) (t .sets) sets-fit (l .sets));
-        kinds = omega (arith, over-length 0 variableLimit (kindRow (pending φ)) (t .kinds) kinds-fit (l .kinds));
+        literals = omega (arith, over-length (pos 0) literalLimit (flat (clauses (modelOf φ))) (t .literals) literals-fit (l .literals));
+        ends = omega (arith, over-length 0 clauseLimit (endsFrom 0 (clauses (modelOf φ))) (t .ends) ends-fit (l .ends));
+        sets = omega (arith, over-length 0 variableLimit (setRow (modelOf φ)) (t .sets) sets-fit (l .sets));
+        kinds = omega (arith, over-length 0 variableLimit (kindRow (modelOf φ)) (t .kinds) kinds-fit (l .kinds));
       })
 
   pub framed : Framed t now
   unfolding spread
   framed =
       rw (h .tables) (λ i. record {
-        literals = over-over (pos 0) literalLimit (flat (clauses blank)) (flat (clauses (pending φ))) (t .literals) literals-fit i;
-        ends = over-over 0 clauseLimit (endsFrom 0 (clauses blank)) (endsFrom 0 (clauses (pending φ))) (t .ends) ends-fit i;
-        sets = over-over 0 variableLimit (setRow blank) (setRow (pending φ)) (t .sets) sets-fit i;
-        kinds = over-over 0 variableLimit (kindRow blank) (kindRow (pending φ)) (t .kinds) kinds-fit i;
+        literals = over-over (pos 0) literalLimit (flat (clauses blank)) (flat (clauses (modelOf φ))) (t .literals) literals-fit i;
+        ends = over-over 0 clauseLimit (endsFrom 0 (clauses blank)) (endsFrom 0 (clauses (modelOf φ))) (t .ends) ends-fit i;
+        sets = over-over 0 variableLimit (setRow blank) (setRow (modelOf φ)) (t .sets) sets-fit i;
+        kinds = over-over 0 variableLimit (kindRow blank) (kindRow (modelOf φ)) (t .kinds) kinds-fit i;
       })
 
-  pub kinds-over : now .kinds ≡ over variableLimit 0 (pending φ .kinds) (t .kinds)
-  unfolding spread kindRow pending
-  kinds-over = ap (λ (x : Tables). x .kinds) (h .tables) ∙ ap (λ (l : List ℕ). over variableLimit 0 l (t .kinds)) (append-nil (pending φ .kinds))
+  pub kinds-over : now .kinds ≡ over variableLimit 0 (modelOf φ .kinds) (t .kinds)
+  unfolding spread kindRow modelBy
+  kinds-over = ap (λ (x : Tables). x .kinds) (h .tables) ∙ ap (λ (l : List ℕ). over variableLimit 0 l (t .kinds)) (append-nil (modelOf φ .kinds))
 
-  pub sets-over : now .sets ≡ over variableLimit 0 (pending φ .sets) (t .sets)
-  unfolding spread setRow pending
-  sets-over = ap (λ (x : Tables). x .sets) (h .tables) ∙ ap (λ (l : List Set). over variableLimit 0 l (t .sets)) (append-nil (pending φ .sets))
+  pub sets-over : now .sets ≡ over variableLimit 0 (modelOf φ .sets) (t .sets)
+  unfolding spread setRow modelBy
+  sets-over = ap (λ (x : Tables). x .sets) (h .tables) ∙ ap (λ (l : List Set). over variableLimit 0 l (t .sets)) (append-nil (modelOf φ .sets))
 
   -- the entries of the variables 1 to V
-  pub kinds-front : take (p .state .bound .0) (now .kinds) ≡ pending φ .kinds
-  kinds-front = let e : p .state .bound .0 ≡ length (pending φ .kinds) = bound-is ∙ sym (pending-kinds φ) in rw (e, kinds-over) (over-take 0 variableLimit (pending φ .kinds) (t .kinds))
+  pub kinds-front : take (p .state .bound .0) (now .kinds) ≡ modelOf φ .kinds
+  kinds-front = let e : p .state .bound .0 ≡ length (modelOf φ .kinds) = bound-is ∙ sym (model-kinds φ) in rw (e, kinds-over) (over-take 0 variableLimit (modelOf φ .kinds) (t .kinds))
 
-  pub sets-front : take (p .state .bound .0) (now .sets) ≡ pending φ .sets
-  sets-front = let e : p .state .bound .0 ≡ length (pending φ .sets) = bound-is ∙ sym (pending-sets φ) in rw (e, sets-over) (over-take 0 variableLimit (pending φ .sets) (t .sets))
+  pub sets-front : take (p .state .bound .0) (now .sets) ≡ modelOf φ .sets
+  sets-front = let e : p .state .bound .0 ≡ length (modelOf φ .sets) = bound-is ∙ sym (model-sets φ) in rw (e, sets-over) (over-take 0 variableLimit (modelOf φ .sets) (t .sets))

@@ -1,6 +1,6 @@
 -- A row: a value for each of the variables 1 to V, `map f (numbers 0 v)`.
 --     row-length, row-entry, row-past      its length; the value of a variable by its entry
---     row-same, row-set                    two functions that agree, or agree but for one variable
+--     row-set                              two functions that agree but for one variable
 --     declared-above, declared-twice, declared-new      the returns of `declare`
 --     universal-end, universal-more, union-end, union-more     the loop of `members_of`
 -- Assumes nothing.
@@ -34,9 +34,6 @@ module _ {A : Type 0} (f g : ℕ → A) where
   unfolding numbers
   same-above k zero h = refl
   same-above k (suc n) h = rw (h (suc k) (omega arith)) (ap (f (suc k) ∷_) (same-above (suc k) n (λ x q. h x (omega arith))))
-
-  pub row-same : (v : ℕ) → ((x : ℕ) → g x ≡ f x) → map g (numbers 0 v) ≡ map f (numbers 0 v)
-  row-same v h = same-above 0 v (λ x q. h x)
 
   set-from : (k n i : ℕ) → i < n → ((x : ℕ) → (x ≡ suc (k + i) → ⊥) → g x ≡ f x) → map g (numbers k n) ≡ set (map f (numbers k n)) i (g (suc (k + i)))
   unfolding numbers

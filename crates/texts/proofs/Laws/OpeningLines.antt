@@ -16,20 +16,19 @@ use lib.ListN.{length, drop, replicate, length-replicate, replicate-append-repli
 use Rattle.dqbf.specs.Limits.{clauseLimit, literalLimit, variableLimit}
 use Rattle.dqbf.specs.Refusal.{refusal, first, _when_}
 use Rattle.dqbf.specs.Literal.{total}
-use Rattle.dqbf.specs.Formula.{Declaration, Formula, universalsOf}
-use Rattle.dqbf.specs.Model.{clauses, emptyFrom, numbers, wordOf}
+use Rattle.dqbf.specs.Formula.{Formula, universalsOf, declaredAs, varBy}
+use Rattle.dqbf.specs.Model.{clauses, emptyFrom, numbers, wordOf, kindFor, setFor, modelBy, modelOf}
 use Rattle.dqbf.specs.Reading.{Form, comment, header, noForm, opening, prefixLines, Reader, start, isOpening, lineTests, taken}
 use Rattle.dqbf.proofs.Laws.Tests.{pass, no-not, no-or, or-left, or-right}
 use Rattle.dqbf.proofs.Reading.Lines.{Sane, newOn, sane-form}
 use Rattle.tables.specs.Tables.{Tables}
 use Rattle.tables.specs.Spread.{flat, endsFrom, over, spread, stateOf, kindRow, setRow}
 use Rattle.tables.specs.declared.State.{State}
-use Rattle.prefix_lines.specs.Pending.{kindWhile, setWhile, given, pending}
 use Rattle.prefix_lines.specs.Lines.{phaseNumber, progressOf, refusalOf, ReadSoFar, LineRead}
 use Rattle.texts.specs.Texts.{emptyState}
 use Rattle.prefix_lines.specs.declared.progress.Progress.{Progress}
-use Rattle.prefix_lines.proofs.Laws.Models.{pending-universals}
-use Rattle.prefix_lines.proofs.Laws.Reading.{countsOf, pending-state, phase-is, phase-opening, phase-late, framed}
+use Rattle.prefix_lines.proofs.Laws.Models.{model-universals}
+use Rattle.prefix_lines.proofs.Laws.Reading.{countsOf, model-state, phase-is, phase-opening, phase-late, framed}
 use Rattle.prefix_lines.proofs.Laws.Declaring.{no-tests}
 use Rattle.prefix_lines.proofs.Laws.LineTests.{test-fails, test-passes, line-refused, line-taken}
 
@@ -50,18 +49,17 @@ over-zeros size n z t h =
 abbrev bare : ℕ → Formula
 bare v = record { bound = v; prefix = []; clauses = [] }
 
-bare-row : (g : Declaration → ℕ) (v : ℕ) (l : List ℕ) → v ≤ variableLimit → over variableLimit 0 (map (given g []) (numbers 0 v) ++ []) l ≡ over variableLimit 0 [] l
-unfolding given
-bare-row g v l low =
-    ap (λ (row : List ℕ). over variableLimit 0 row l) (append-nil (map (given g []) (numbers 0 v)) ∙ zeros-row (given g []) 0 v (λ x. refl)) ∙ over-zeros variableLimit v 0 l low
+bare-row : (f : ℕ → ℕ) → ((x : ℕ) → f x ≡ 0) → (v : ℕ) (l : List ℕ) → v ≤ variableLimit → over variableLimit 0 (map f (numbers 0 v) ++ []) l ≡ over variableLimit 0 [] l
+bare-row f zero-at v l low =
+    ap (λ (row : List ℕ). over variableLimit 0 row l) (append-nil (map f (numbers 0 v)) ∙ zeros-row f 0 v zero-at) ∙ over-zeros variableLimit v 0 l low
 
-bare-spread : (v : ℕ) (t : Tables) → v ≤ variableLimit → spread (pending (bare v)) t ≡ spread (pending (bare 0)) t
-unfolding spread pending kindRow setRow clauses numbers flat endsFrom
+bare-spread : (v : ℕ) (t : Tables) → v ≤ variableLimit → spread (modelOf (bare v)) t ≡ spread (modelOf (bare 0)) t
+unfolding spread modelBy varBy declaredAs kindFor setFor kindRow setRow clauses numbers flat endsFrom
 bare-spread v t low = λ i. record {
   literals = over literalLimit (pos 0) [] (t .literals);
   ends = over clauseLimit 0 [] (t .ends);
-  sets = bare-row (setWhile (universalsOf [])) v (t .sets) low i;
-  kinds = bare-row kindWhile v (t .kinds) low i;
+  sets = bare-row (λ x. 0) (λ x. refl) v (t .sets) low i;
+  kinds = bare-row (λ x. 0) (λ x. refl) v (t .kinds) low i;
 }
 
 module _ {t : Tables} {r : Reader} {p : Progress} {now : Tables} (h : ReadSoFar t r p now) where
@@ -109,12 +107,12 @@ module _ {t : Tables} {r : Reader} {p : Progress} {now : Tables} (h : ReadSoFar 
         unfolding newOn
         sane = sane-form r (header v c) (λ x q. absurd (List·Memᴰ·not-nil q)) passes (h .sane)
 
-        state-empty : emptyState v ≡ stateOf (pending (bare v))
+        state-empty : emptyState v ≡ stateOf (modelOf (bare v))
         unfolding taken total emptyFrom universalsOf
-        state-empty = sym (pending-state (bare v) ∙ ap (λ n. countsOf v n []) (pending-universals (taken r (header v c)) sane))
+        state-empty = sym (model-state (bare v) ∙ ap (λ n. countsOf v n []) (model-universals (taken r (header v c)) sane))
 
-        tables-empty : now ≡ spread (pending (bare v)) t
-        tables-empty = h .tables ∙ ap (λ (x : Reader). spread (pending (x .formula)) t) (h .opened (phase-opening r (phase-is h) e)) ∙ sym (bare-spread v t low)
+        tables-empty : now ≡ spread (modelOf (bare v)) t
+        tables-empty = h .tables ∙ ap (λ (x : Reader). spread (modelOf (x .formula)) t) (h .opened (phase-opening r (phase-is h) e)) ∙ sym (bare-spread v t low)
 
         pub header-read : {s : State} → s ≡ emptyState v → LineRead t r (header v c) (record { progress = record { phase = 1; count = c; places = 0; state = s }; refusal = 0 }) now
         unfolding taken refusalOf progressOf phaseNumber wordOf universalsOf

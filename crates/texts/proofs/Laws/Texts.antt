@@ -16,7 +16,7 @@ use lib.ListN.{length, take, drop, length-drop, drop-of-length-le}
 use Rattle.dqbf.specs.Refusal.{Refusal, refusal, first}
 use Rattle.dqbf.specs.Formula.{Formula, universalsOf}
 use Rattle.dqbf.specs.Text.{lineFeed, onto, pieces, isEmpty}
-use Rattle.dqbf.specs.Model.{numbers, wordOf}
+use Rattle.dqbf.specs.Model.{numbers, wordOf, modelBy, modelOf}
 use Rattle.dqbf.specs.Reading.{Form, formOf, Phase, opening, prefixLines, clauseLines, Reader, start, lineTests, taken, Loaded, accepted, refused, atEnd, unless, readFrom}
 use Rattle.dqbf.proofs.Reading.Lines.{start-sane}
 use Rattle.ranks.specs.Order.{allInserted}
@@ -26,7 +26,6 @@ use Rattle.tables.specs.Tables.{Tables}
 use Rattle.tables.specs.Spread.{spread, stateOf, blank}
 use Rattle.tables.specs.WellFormed.{long}
 use Rattle.tables.proofs.Laws.Spread.{blank-state}
-use Rattle.prefix_lines.specs.Pending.{pending}
 use Rattle.prefix_lines.specs.Lines.{phaseNumber, progressOf, refusalOf, ReadSoFar, Known, LineRead}
 use Rattle.texts.specs.Texts.{startProgress, TextRead}
 use Rattle.prefix_lines.specs.declared.progress.Progress.{Progress}
@@ -36,8 +35,8 @@ use Rattle.prefix_lines.proofs.Laws.Reading.{phase-is, phase-opening, phase-lat
 
 -- ---- before the first line
 
-start-blank : pending (start .formula) ≡ blank
-unfolding pending numbers
+start-blank : modelOf (start .formula) ≡ blank
+unfolding modelBy numbers
 start-blank = refl
 
 pub read-start : (t : Tables) → long t ≡ true → t ≡ spread blank t → {p : Progress} → p ≡ startProgress → ReadSoFar t start p t

@@ -33,7 +33,13 @@ same-length-2 : tie.Need-same-length-2
 same-length-2 c = c .before .before .before .before .before .before .declare .kept .1 .1 .1 .1 .1 .0
 
 returns : tie.Need-returns
-returns c = rw (c .refused .ensures) (one-same (c .before .before .before .before .before .before .before .before .before .before .before .before .before .before .before .args .progress) 12, λ t r l e h inside. one-refused h inside (c .before .before .before .before .before .before .before .before .before .before .before .before .before .before .before .args .variable) (omega arith) (c .before .before .before .before .before .before .declare .ensures .told) (c .before .before .before .before .before .before .before .before .before .before .before .before .before .before .before .args .universal) 1 _ (c .before .if2 .taken) (c .before .before .before .before .before .before .declare .ensures .sets-are) (c .before .before .before .before .before .before .declare .ensures .kinds-are))
+returns c =
+    let declared = c .before .before .before .before .before .before in
+    let start = declared .before .before .before .before .before .before .before .before .before in
+    let d = declared .declare .ensures in
+    let a = start .args in
+    rw (c .refused .ensures)
+    (one-same (a .progress) 12, λ t r l e h inside. one-refused h inside (a .variable) (omega arith) (d .told) (a .universal) 1 _ (c .before .if2 .taken) (d .sets-are) (d .kinds-are))
 
 add-universal-requires : tie.Need-add-universal-requires
 add-universal-requires c κs = c .before .before .before .before .before .before .before .before .before .before .before .before .before .before .pre .3 (c .before .before .before .before .before .before .before .before .before .if1 .taken)
@@ -45,7 +51,18 @@ same-length-4 : tie.Need-same-length-4
 same-length-4 c = c .before .before .before .before .before .before .declare .kept .1 .1 .1 .1 .1 .0
 
 returns-2 : tie.Need-returns-2
-returns-2 c = let few = c .before .before .before .before .before .before .before .before .before .before .before .before .before .before .before .pre .3 (c .before .before .before .before .before .before .before .before .before .before .if1 .taken) in let w = one-shifted (c .before .before .before .before .before .before .before .before .before .before .before .before .before .before .before .args .progress .state .universals) few in (one-added (c .before .before .before .before .before .before .before .before .before .before .before .before .before .before .before .args .progress) _ 0 (c .add-universal .ensures), λ t r l e h inside. rw (c .before .before .before .before .before .before .before .before .before .before .if1 .taken) (one-universal h inside (c .before .before .before .before .before .before .before .before .before .before .before .before .before .before .before .args .variable) (omega arith) (c .before .before .before .before .before .before .declare .ensures .told) (c .before .if2 .left) few w (c .before .before .before .before .before .before .declare .ensures .sets-are) (c .before .before .before .before .before .before .declare .ensures .kinds-are) (c .add-universal .ensures)))
+returns-2 c =
+    let declared = c .before .before .before .before .before .before in
+    let chosen = declared .before .before .before .before in
+    let start = chosen .before .before .before .before .before in
+    let d = declared .declare .ensures in
+    let a = start .args in
+    let few = start .pre .3 (chosen .if1 .taken) in
+    let w = one-shifted (a .progress .state .universals) few in (
+      one-added (a .progress) _ 0 (c .add-universal .ensures),
+      λ t r l e h inside. rw (chosen .if1 .taken)
+          (one-universal h inside (a .variable) (omega arith) (d .told) (c .before .if2 .left) few w (d .sets-are) (d .kinds-are) (c .add-universal .ensures)),
+    )
 
 declare-requires-2 : tie.Need-declare-requires-2
 declare-requires-2 c κs = search needs
@@ -60,7 +77,13 @@ same-length-6 : tie.Need-same-length-6
 same-length-6 c = c .before .before .before .before .before .before .declare2 .kept .1 .1 .1 .1 .1 .0
 
 returns-3 : tie.Need-returns-3
-returns-3 c = rw (c .refused2 .ensures) (one-same (c .before .before .before .before .before .before .before .before .before .before .before .before .before .before .args .progress) 12, λ t r l e h inside. one-refused h inside (c .before .before .before .before .before .before .before .before .before .before .before .before .before .before .args .variable) (omega arith) (c .before .before .before .before .before .before .declare2 .ensures .told) (c .before .before .before .before .before .before .before .before .before .before .before .before .before .before .args .universal) 4 0 (c .before .if3 .taken) (c .before .before .before .before .before .before .declare2 .ensures .sets-are) (c .before .before .before .before .before .before .declare2 .ensures .kinds-are))
+returns-3 c =
+    let declared = c .before .before .before .before .before .before in
+    let start = declared .before .before .before .before .before .before .before .before in
+    let d = declared .declare2 .ensures in
+    let a = start .args in
+    rw (c .refused2 .ensures)
+    (one-same (a .progress) 12, λ t r l e h inside. one-refused h inside (a .variable) (omega arith) (d .told) (a .universal) 2 _ (c .before .if3 .taken) (d .sets-are) (d .kinds-are))
 
 same-length-7 : tie.Need-same-length-7
 same-length-7 c = c .before .before .before .before .before .declare2 .kept .1 .1 .1 .1 .0
@@ -69,7 +92,15 @@ same-length-8 : tie.Need-same-length-8
 same-length-8 c = c .before .before .before .before .before .declare2 .kept .1 .1 .1 .1 .1 .0
 
 returns-4 : tie.Need-returns-4
-returns-4 c = (one-same (c .before .before .before .before .before .before .before .before .before .before .before .before .before .args .progress) 0, λ t r l e h inside. rw (c .before .before .before .before .before .before .before .before .if1 .left) (one-existential h inside (c .before .before .before .before .before .before .before .before .before .before .before .before .before .args .variable) (omega arith) (c .before .before .before .before .before .declare2 .ensures .told) (c .if3 .left) (c .before .before .before .before .before .declare2 .ensures .sets-are) (c .before .before .before .before .before .declare2 .ensures .kinds-are)))
+returns-4 c =
+    let declared = c .before .before .before .before .before in
+    let chosen = declared .before .before .before in
+    let start = chosen .before .before .before .before .before in
+    let d = declared .declare2 .ensures in
+    let a = start .args in (
+      one-same (a .progress) 0,
+      λ t r l e h inside. rw (chosen .if1 .left) (one-existential h inside (a .variable) (omega arith) (d .told) (c .if3 .left) (d .sets-are) (d .kinds-are)),
+    )
 
 pub declare-one-spec : {M : Type 1} → statement M
 declare-one-spec =
