@@ -31,7 +31,11 @@ int main(int argc, char **argv) {
     const kefthrun::Result ran = checker.run(records.data(), records.size());
     if (ran.tag == KEFTHRUN_RUN_REFUTED) std::printf("refuted %u %u\n", ran.first, ran.second);
     if (ran.tag == KEFTHRUN_RUN_OPEN) std::printf("open %u\n", ran.first);
-    if (ran.tag == KEFTHRUN_RUN_BAD) std::printf("bad %u %u\n", ran.first, ran.second);
+    if (ran.tag == KEFTHRUN_RUN_BAD) {
+        std::printf("bad %u %u", ran.first, ran.second);
+        if (ran.second == KEFTHRUN_COMPLEMENTARY_IN_RESOLVENT) std::printf(" %u", ran.third);
+        std::printf("\n");
+    }
 
     for (uint32_t c = 1; checker.clause(c).tag == KEFTHRUN_ANSWERED; c++) {
         std::printf("clause %u:", c);

@@ -8,8 +8,8 @@
  * The driver's duties. The library is of this interface: kefthrun_interface() == KEFTHRUN_INTERFACE. A pointer is never null, also where its length is 0. No
  * two buffers of one call share a byte. Nothing else writes to a buffer while a call runs. The class kefthrun::Checker sees to the first three.
  *
- * Results. A result has four 16-bit fields, the lowest first: the case, which is never 0, two values, and 0. Too few bytes in a buffer is refusal 1; nothing
- * is changed then, except that a load zeroes a state of 16 bytes or more. An output shorter than its text is refusal 30.
+ * Results. A result has four 16-bit fields, the lowest first: the case, which is never 0, and up to three values; a field without a value is 0. Too few bytes in
+ * a buffer is refusal 1; nothing is changed then, except that a load zeroes a state of 16 bytes or more. An output shorter than its text is refusal 30.
  *
  * Stack. No call uses the heap or recursion. A load was measured to use 91,856 bytes of stack, a run 26,032, a question or a shown clause 25,728, a write
  * 26,096 (docs/PERFORMANCE.md): give a thread at least 128 KB of stack. */
@@ -20,7 +20,7 @@
 #include <stdint.h>
 
 /* The number of this interface: one higher with each change of a function, a buffer's size or the fields of a result. */
-#define KEFTHRUN_INTERFACE 2u
+#define KEFTHRUN_INTERFACE 3u
 
 /* Sizes of the buffers, in bytes. */
 enum {
@@ -55,7 +55,7 @@ enum {
     KEFTHRUN_UNKNOWN_CLAUSE = 21,             /* clause number 0 or above the count */
     KEFTHRUN_NOT_IN_CLAUSE = 22,              /* the literal, or the complement, is not in its clause */
     KEFTHRUN_UNKNOWN_VARIABLE = 22,           /* a question about a variable that is not in use */
-    KEFTHRUN_COMPLEMENTARY_IN_RESOLVENT = 23, /* the resolvent has complementary literals */
+    KEFTHRUN_COMPLEMENTARY_IN_RESOLVENT = 23, /* the resolvent has complementary literals; the third value is their lowest variable */
     KEFTHRUN_TOO_WIDE = 24,                   /* the resolvent has more than 32 literals */
     KEFTHRUN_NO_ROOM = 25,                    /* no room for more clauses, literals or variables */
     KEFTHRUN_NOT_UNIVERSAL = 26,              /* the literal is not universal */
@@ -78,7 +78,7 @@ uint64_t kefthrun_load(const uint8_t *text, size_t text_length, uint8_t *literal
                        uint8_t *sets, size_t sets_length, uint8_t *kinds, size_t kinds_length, uint8_t *state, size_t state_length);
 
 /* Runs a list of 16-byte records. Refuted with accepted steps and lowest empty clause; open with accepted steps; or bad with the step (0: the whole list)
- * and number. Open does not mean that the formula is true. */
+ * and number, and for number 23 the lowest variable that the resolvent holds in both signs (0 for every other). Open does not mean that the formula is true. */
 uint64_t kefthrun_run(const uint8_t *records, size_t records_length, uint8_t *literals, size_t literals_length, uint8_t *ends, size_t ends_length,
                       uint8_t *sets, size_t sets_length, uint8_t *kinds, size_t kinds_length, uint8_t *state, size_t state_length);
 
@@ -108,6 +108,7 @@ uint64_t kefthrun_write(uint8_t *out, size_t out_length, const uint8_t *literals
 static inline unsigned kefthrun_case(uint64_t result) { return (unsigned)(result & 0xffffu); }
 static inline unsigned kefthrun_first(uint64_t result) { return (unsigned)(result >> 16 & 0xffffu); }
 static inline unsigned kefthrun_second(uint64_t result) { return (unsigned)(result >> 32 & 0xffffu); }
+static inline unsigned kefthrun_third(uint64_t result) { return (unsigned)(result >> 48 & 0xffffu); }
 
 /* The length that an answered write tells. */
 static inline size_t kefthrun_length(uint64_t result) { return kefthrun_first(result) + (size_t)65536 * kefthrun_second(result); }
@@ -129,8 +130,8 @@ namespace kefthrun {
 
 /* A result, taken apart: the tag is its case. */
 struct Result {
-    unsigned tag, first, second;
-    explicit Result(uint64_t r) : tag(kefthrun_case(r)), first(kefthrun_first(r)), second(kefthrun_second(r)) {}
+    unsigned tag, first, second, third;
+    explicit Result(uint64_t r) : tag(kefthrun_case(r)), first(kefthrun_first(r)), second(kefthrun_second(r)), third(kefthrun_third(r)) {}
     /* The length that an answered write tells. */
     size_t length() const { return kefthrun_length((uint64_t)first << 16 | (uint64_t)second << 32); }
 };

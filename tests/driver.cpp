@@ -99,7 +99,8 @@ static std::vector<uint8_t> listing() {
     return all;
 }
 
-static uint64_t packed(uint64_t tag, uint64_t a, uint64_t b) { return tag + (a << 16) + (b << 32); }
+// A result; the last field is 0 except for a resolvent with complementary literals.
+static uint64_t packed(uint64_t tag, uint64_t a, uint64_t b, uint64_t c = 0) { return tag + (a << 16) + (b << 32) + (c << 48); }
 
 static bool is_text(Guarded &out, const std::string &text) {
     const std::vector<uint8_t> bytes = out.bytes();
@@ -166,6 +167,39 @@ static void texts() {
     not_written(b, KEFTHRUN_NOT_WELL_FORMED);
 }
 
+// Resolutions of clauses 1 and 2 on a literal: the lowest variable that the resolvent holds in both signs.
+static void clash(Buffers &b, uint32_t pivot, unsigned variable) {
+    const std::vector<std::vector<uint8_t>> before = b.bytes();
+    const uint64_t told = b.run(record(1, 1, 2, pivot));
+    expect("23 with its variable", told == packed(3, 1, KEFTHRUN_COMPLEMENTARY_IN_RESOLVENT, variable));
+    expect("the variable is the last field", kefthrun_third(told) == variable);
+    expect("a clash changes nothing", b.bytes() == before && b.guards_stand());
+}
+
+static void clashes() {
+    Buffers b;
+    expect("four pairs", b.load("p cnf 512 2\ne 511 1 512 2 0\n512 -2 511 1 0\n-511 2 -1 -512 0\n") == packed(1, 0, 0));
+    clash(b, 1, 2);
+    clash(b, 0xfffffffeu, 1);
+    clash(b, 511, 1);
+    clash(b, 512, 1);
+    expect("no pivot, no variable", b.run(record(1, 1, 2, 3)) == packed(3, 1, 22));
+    expect("a high variable", b.load("p cnf 512 2\na 511 0\ne 512 0\n511 512 0\n-511 -512 0\n") == packed(1, 0, 0));
+    clash(b, 511, 512);
+    clash(b, 512, 511);
+    const std::string wide = "p cnf 40 3\ne " + numbers(1, 40) + "0\n" + numbers(1, 31) + "40 0\n-31 -40 0\n-31 32 -40 0\n";
+    expect("31 and a pair", b.load(wide) == packed(1, 0, 0));
+    clash(b, 40, 31);
+    expect("33 literals and a pair", b.run(record(1, 1, 3, 40)) == packed(3, 1, KEFTHRUN_TOO_WIDE));
+    expect("the listing", b.load(formula) == packed(1, 0, 0) && b.run(listing()) == packed(1, 3, 5));
+    clash(b, 1, 2);
+    clash(b, 2, 1);
+    std::vector<uint8_t> two = record(2, 1, 0, 1), wrong = record(1, 1, 2, 2);
+    two.insert(two.end(), wrong.begin(), wrong.end());
+    expect("a clash at step 2", b.run(two) == packed(3, 2, 23, 1));
+    expect("no variable behind it", b.run(record(4, 0, 0, 0)) == packed(3, 1, 20) && b.run({}) == packed(1, 4, 5));
+}
+
 static void whole() {
     Buffers b;
     expect("the header's interface", kefthrun_interface() == KEFTHRUN_INTERFACE);
@@ -225,8 +259,8 @@ static void longer(int which) {
     expect("guards", b.guards_stand());
 }
 
-static bool is(const kefthrun::Result &r, unsigned tag, unsigned first, unsigned second) {
-    return r.tag == tag && r.first == first && r.second == second;
+static bool is(const kefthrun::Result &r, unsigned tag, unsigned first, unsigned second, unsigned third = 0) {
+    return r.tag == tag && r.first == first && r.second == second && r.third == third;
 }
 
 // The class: a cleared result is no case, and a null pointer is no bytes.
@@ -250,6 +284,7 @@ static void class_in_cpp() {
     }
     expect("a null pointer with a length", thrown);
     expect("refuted 3 5", is(checker.run(listing().data(), listing().size()), KEFTHRUN_RUN_REFUTED, 3, 5));
+    expect("a clash", is(checker.run(record(1, 1, 2, 1).data(), 16), KEFTHRUN_RUN_BAD, 1, KEFTHRUN_COMPLEMENTARY_IN_RESOLVENT, 2));
     expect("clause 2", checker.literals(2) == std::vector<int>({-1, -2}));
     expect("no clause 6", checker.literals(6).empty() && is(checker.clause(6), KEFTHRUN_REFUSED, KEFTHRUN_UNKNOWN_CLAUSE, 0));
     expect("variable 1", is(checker.variable(1), KEFTHRUN_ANSWERED, KEFTHRUN_KIND_UNIVERSAL, 1));
@@ -292,6 +327,7 @@ static void texts_in_cpp() {
 
 int main() {
     whole();
+    clashes();
     texts();
     class_in_cpp();
     texts_in_cpp();

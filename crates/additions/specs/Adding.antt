@@ -1,5 +1,11 @@
 -- What the last tests of a step leave: width and clash of a resolvent, and room (document 01, "Numbers of refusal": 24, 23, 25).
--- Offers `Holding` (the tables are long enough and well formed), `One`, `Two`, `Splits` (a clause split in two), `fitted`, `tested`, `refusalNumber`, `WrittenOrErased`, `After` (what a step leaves).
+--     Holding                        the tables are long enough and well formed
+--     After                          what a step leaves of them
+--     refusedBy                      refused with a number alone
+--     One, Two, Splits               one clause more, two and a variable; a clause split in two
+--     fitted, tested                 the last tests, of room and of a resolvent
+--     refusalNumber, refusalFor      the same tests as the code makes them: the number, and the refusal for it
+--     WrittenOrErased                what writing a resolvent leaves and tells
 use mathlib.Core.Path.{_≡_}
 use mathlib.Core.Bool.{Bool, cond, true}
 use mathlib.Core.List.{List, [], _∷_}
@@ -8,8 +14,10 @@ use lib.Dec.{eqb, ltb}
 use lib.IntN.{ℤ}
 use lib.ListN.{length}
 use Rattle.dqbf.specs.Limits.{tables, widthLimit}
-use Rattle.dqbf.specs.Refusal.{refusal}
-use Rattle.dqbf.specs.Literal.{Clause, clashes, pick}
+use Rattle.dqbf.specs.Refusal.{refusal, naming}
+use Rattle.dqbf.specs.declared.refusal.Refusal as Code
+use Rattle.dqbf.specs.declared.refusal.Refusal.the-variants.{Plain, Naming}
+use Rattle.dqbf.specs.Literal.{Clause, clashes, lowestClash, pick}
 use Rattle.dqbf.specs.Set.{Set}
 use Rattle.dqbf.specs.Model.{Model}
 use Rattle.dqbf.specs.Rules.{Addition, noRoom}
@@ -18,8 +26,9 @@ use Rattle.tables.specs.Tables.{Tables, modelIn}
 use Rattle.tables.specs.Adding.{full}
 use Rattle.tables.specs.WellFormed.{long, wellFormed}
 use Rattle.tables.specs.declared.State.{State}
-use Rattle.additions.specs.Examined.{AfterStep, examined}
+use Rattle.additions.specs.Examined.{stepTold, AfterStep, examined}
 use Rattle.additions.specs.declared.Stepped.{Stepped}
+use Rattle.additions.specs.declared.StepAnswer.the-variants.{Refused}
 use Rattle.additions.specs.declared.adding.Split.{Split}
 use Rattle.additions.specs.declared.adding.Resolvent.{Resolvent}
 use Rattle.joins.specs.Joining.{overlaid}
@@ -29,9 +38,13 @@ pub record Holding (t : Tables) (s : State) : Type 0 where
   pub lent : long t ≡ true
   pub formed : wellFormed t s ≡ true
 
--- the tables t′ and the answer r are what an examined record leaves of the tables t and the state s
+-- the tables t′ and the state and the answer of r are what an examined record leaves of the tables t and the state s
 abbrev pub After : Tables → State → Examined → Tables → Stepped → Type 0
-After t s e t′ r = _≡_ {A = AfterStep} (record { tables = t′; state = r .state; answer = r .answer }) (examined t (modelIn t s) e)
+After t s e t′ r = _≡_ {A = AfterStep} (record { tables = t′; state = r .state; answer = stepTold (r .answer) }) (examined t (modelIn t s) e)
+
+-- refused with a number alone, the state as it was
+abbrev pub refusedBy : State → ℕ → Stepped
+refusedBy s n = record { state = s; answer = Refused (Plain n) }
 
 abbrev pub One : Clause → Addition
 One C = record { clauses = C ∷ []; forks = [] }
@@ -53,14 +66,20 @@ fitted m a = cond (noRoom tables m a) (refuses (refusal 25)) (accepts a)
 
 -- 24 and 23 of a resolvent, then 25
 unfoldable pub tested : Model → Clause → Examined
-tested m C = cond (ltb widthLimit (length C)) (refuses (refusal 24)) (cond (clashes C) (refuses (refusal 23)) (fitted m (One C)))
+tested m C =
+    cond (ltb widthLimit (length C)) (refuses (refusal 24)) (cond (clashes C) (refuses (naming 23 (lowestClash C))) (fitted m (One C)))
 
 -- the same tests by width and clash, as the code makes them: the number of refusal, 0 for none
 unfoldable pub refusalNumber : State → ℕ → Bool → ℕ
 refusalNumber s width clash = cond (ltb widthLimit width) 24 (cond clash 23 (cond (full s 1 width 0) 25 0))
 
+-- 23 with the variable, another number alone
+unfoldable pub refusalFor : (number variable : ℕ) → Code.Refusal
+refusalFor number variable = cond (eqb number 23) (Naming number variable) (Plain number)
+
 -- Of the tail xs, writing the resolvent C left zs and answered r: C stands over it, or nothing changed.
 pub record WrittenOrErased (s : State) (C : Clause) (xs zs : List ℤ) (r : Resolvent) : Type 0 where
   pub count : r .count ≡ length C
   pub number : r .number ≡ refusalNumber s (length C) (clashes C)
+  pub lowest : r .lowest ≡ lowestClash C
   pub left : zs ≡ cond (eqb (r .number) 0) (overlaid C xs) xs

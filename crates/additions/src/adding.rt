@@ -5,6 +5,7 @@ use crate::refusal;
 use clauses::writing;
 use dqbf::limits::LITERAL_LIMIT;
 use dqbf::limits::WIDTH_LIMIT;
+use dqbf::refusal::Refusal;
 use joins::Joined;
 use tables::State;
 use tables::adding;
@@ -17,19 +18,20 @@ ghost use lib.ListN.{length, replicate};
 ghost use Rattle.dqbf.specs.Limits.{widthLimit};
 ghost use Rattle.dqbf.specs.Literal.{join, pick};
 ghost use Rattle.clauses.specs.Places.{butAt};
-ghost use Rattle.additions.specs.Adding.{Holding, After, One, Two, fitted, tested, Splits, refusalNumber, WrittenOrErased};
+ghost use Rattle.additions.specs.Adding.{Holding, After, refusedBy, One, Two, fitted, tested, Splits, refusalNumber, refusalFor, WrittenOrErased};
 ghost use Rattle.additions.specs.declared.StepAnswer.the-variants.{Refused};
 
 // Nothing changes.
-pub fn refused(state: State, number: u32) -> Stepped
-    ensures { λ r. ⌜ r ≡ record { state = state; answer = Refused number } ⌝ }
+pub fn refused(state: State, number: u16) -> Stepped
+    ensures { λ r. ⌜ r ≡ refusedBy state number ⌝ }
 {
-    let answer = StepAnswer::Refused(number);
+    let why = Refusal::Plain(number);
+    let answer = StepAnswer::Refused(why);
     Stepped { state, answer }
 }
 
 // The number that refuses a joined clause as a resolvent: its width, complementary literals, room; 0 where none does.
-fn number_of(joined: Joined, state: State) -> u32
+fn number_of(joined: Joined, state: State) -> u16
     ensures { λ r. ⌜ r ≡ refusalNumber state (joined .count) (joined .clashes) ⌝ }
 {
     if joined.count > WIDTH_LIMIT {
@@ -44,10 +46,11 @@ fn number_of(joined: Joined, state: State) -> u32
     0
 }
 
-// A resolvent that was written: how many literals it has, and the number that refuses it or 0.
+// A resolvent that was written: how many literals it has, the number that refuses it or 0, and the lowest variable that it holds in both signs (0: none).
 pub struct Resolvent {
     pub count: usize,
-    pub number: u32,
+    pub number: u16,
+    pub lowest: u16,
 }
 
 // Writes a resolvent, the join of two clauses, over the tail, where zeros stand; one that is refused is erased again.
@@ -57,12 +60,29 @@ fn write_resolvent(tail: &mut [i16], first: &[i16], second: &[i16], state: State
 {
     let joined = joins::write_join(tail, first, second);
     let count = joined.count;
+    let lowest = joined.lowest;
     let number = number_of(joined, state);
     if number != 0 {
         joins::erase(tail, count);
-        return Resolvent { count, number };
     }
-    Resolvent { count, number }
+    Resolvent {
+        count,
+        number,
+        lowest,
+    }
+}
+
+// A refused resolvent: 23 names the variable.
+fn refused_resolvent(state: State, resolvent: Resolvent) -> Stepped
+    ensures { λ r. ⌜ r ≡ record { state = state; answer = Refused (refusalFor (resolvent .number) (resolvent .lowest)) } ⌝ }
+{
+    let number = resolvent.number;
+    if number == refusal::COMPLEMENTARY {
+        let why = Refusal::Naming(number, resolvent.lowest);
+        let answer = StepAnswer::Refused(why);
+        return Stepped { state, answer };
+    }
+    refused(state, number)
 }
 
 // A resolvent as a new clause, unless it is refused.
@@ -83,7 +103,7 @@ pub fn add_resolvent(
     let last = state.literals as usize;
     let resolvent = write_resolvent(&mut literals[last..LITERAL_LIMIT], first, second, state);
     if resolvent.number != 0 {
-        return refused(state, resolvent.number);
+        return refused_resolvent(state, resolvent);
     }
     let next = adding::add_clause(ends, state, resolvent.count as u16);
     let answer = StepAnswer::Accepted;

@@ -1,10 +1,11 @@
 // What an accepted step adds to the four lent tables, with the last tests of its rule (document 01, "Numbers of refusal": 24, 23, 25).
+use dqbf::refusal::Refusal;
 use tables::State;
 
-// A step is accepted, or refused with its number.
+// A step is accepted or refused.
 pub enum StepAnswer {
     Accepted,
-    Refused(u32),
+    Refused(Refusal),
 }
 
 // The state behind a step, with the answer.

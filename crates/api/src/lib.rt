@@ -8,6 +8,7 @@ pub use dqbf::limits::LITERAL_LIMIT;
 pub use dqbf::limits::RECORDS_LIMIT;
 pub use dqbf::limits::TEXT_LIMIT;
 pub use dqbf::limits::VARIABLE_LIMIT;
+pub use dqbf::refusal::Refusal;
 pub use dqdimacs::LoadAnswer;
 pub use dqdimacs::Loaded;
 pub use dqdimacs::load;

@@ -8,14 +8,12 @@ use Rattle.dqbf.specs.Literal.{_∈_}
 use Rattle.dqbf.specs.Formula.{Formula}
 use Rattle.dqbf.specs.Meaning.{Refuted}
 use Rattle.dqbf.specs.Reading.{load, accepted}
+use Rattle.dqbf.specs.Run.{refuted, Call, Answer, ran}
 use Rattle.tables.specs.Tables.{Tables}
-use Rattle.tables.specs.declared.StepNumber.{StepNumber}
-use Rattle.tables.specs.declared.ClauseNumber.{ClauseNumber}
 use Rattle.dqdimacs.specs.Loading.{loadOf}
 use Rattle.dqdimacs.specs.declared.LoadAnswer.{LoadAnswer}
 use Rattle.dqdimacs.specs.declared.LoadAnswer.the-variants as LoadAnswer
-use Rattle.steps.specs.Statements.Refutation.{Lent, Call, Answer, ran, next, answer, answers}
-use Rattle.steps.specs.declared.RunAnswer.the-variants as RunAnswer
+use Rattle.steps.specs.Statements.Refutation.{Lent, next, answer, answers}
 use Rattle.calls.specs.Statements.Refutation.{loaded}
 use Rattle.calls.specs.Statements.Reloading.{AnyCall, loadCall, laterCall, Standing, textIf, nextOf, Told, allTold, Reloading}
 use Rattle.calls.proofs.Refutation.{refutation}
@@ -64,20 +62,20 @@ founded-next x (laterCall c) h text e =
       reached = ap (λ (y : Lent). next y c) (s .reached) ∙ sym (after-one (loaded (s .tables) text) (s .calls) c);
     }
 
-module _ (text : List ℕ) (steps : StepNumber) (clause : ClauseNumber) where
-  abbrev refuted : Answer
-  refuted = ran (RunAnswer.Refuted steps clause)
+module _ (text : List ℕ) (steps clause : ℕ) where
+  abbrev told : Answer
+  told = ran (refuted steps clause)
 
   abbrev Said : Type 0
   Said = (φ : Formula) × (load text ≡ accepted φ) × Refuted φ
 
-  since-said : (x : Lent) → Since x text → (c : Call) → refuted ≡ answer x c → Said
+  since-said : (x : Lent) → Since x text → (c : Call) → told ≡ answer x c → Said
   since-said x s c e =
       let y = loaded (s .tables) text in
-      let same : refuted ≡ answer (after y (s .calls)) c = e ∙ ap (λ (z : Lent). answer z c) (s .reached) in
+      let same : told ≡ answer (after y (s .calls)) c = e ∙ ap (λ (z : Lent). answer z c) (s .reached) in
       refutation (s .tables) text (s .accepts) (s .calls ++ (c ∷ [])) steps clause (rw same (answer-among y (s .calls) c))
 
-  among : (x : Standing) → Founded x → (cs : List AnyCall) → _∈_ {A = Told} (record { text = some text; answer = refuted }) (allTold x cs) → Said
+  among : (x : Standing) → Founded x → (cs : List AnyCall) → _∈_ {A = Told} (record { text = some text; answer = told }) (allTold x cs) → Said
   unfolding allTold
   among x h [] q = absurd (List·Memᴰ·not-nil q)
   among x h (loadCall t ∷ cs) q = among (nextOf x (loadCall t)) (founded-next x (loadCall t) h) cs q

@@ -11,7 +11,7 @@ use lib.ListN.{length}
 use Rattle.dqbf.specs.Limits.{Room, recordsLimit}
 use Rattle.dqbf.specs.Bytes.{bytes, sameBytes, number}
 use Rattle.dqbf.specs.Refusal.{refusal, first}
-use Rattle.dqbf.specs.Literal.{_∈_, same, rank, holds, without, join, sorted, clashes, total, pick, covers}
+use Rattle.dqbf.specs.Literal.{_∈_, same, rank, holds, without, join, sorted, clashes, lowestClash, total, pick, covers}
 use Rattle.dqbf.specs.Set.{Set, inside, single}
 use Rattle.dqbf.specs.Formula.{Declaration, onA, onE, onD, Formula, universalsOf, universals, declared, eSet, Var, undeclared, universal, existential, declaredAs, varBy}
 use Rattle.dqbf.specs.Text.{onto, pieces, isEmpty, nonEmpty, lastOf, parted, tokens, allDigits, valueFrom, numberOf, notZero, variableOf, literalOf, isZero, prepend, closed}
@@ -219,7 +219,7 @@ each-line = record { text = refl; sets = (refl, refl); before = (refl, refl) }
 
 pub some-gained : SomeGained
 unfolding
-    bytes sameBytes number first same rank holds without join sorted clashes total pick covers universalsOf declared eSet everyUniversal declaredAs varBy
+    bytes sameBytes number first same rank holds without join sorted clashes lowestClash total pick covers universalsOf declared eSet everyUniversal declaredAs varBy
     onto pieces isEmpty nonEmpty lastOf parted tokens allDigits valueFrom numberOf notZero variableOf literalOf isZero prepend closed
     headerOf headerForm prefixForm clauseForm tokensForm isComment formOf isOpening takesClauses takesPrefix elem allIn different fresh undeclarable lineTests declaring taken atEnd unless readFrom load
     clauses used kindOf setOf clauseSet place wordOf kindFor setFor numbers modelBy zeros signed recordOf

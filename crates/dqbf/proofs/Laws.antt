@@ -6,6 +6,7 @@ pub mod Signed
 pub mod Literals
 pub mod Clauses
 pub mod Order
+pub mod Clashes
 pub mod Masks
 pub mod Words
 pub mod Containment
@@ -13,4 +14,5 @@ pub mod Digits
 pub mod Counting
 pub mod Models
 pub mod Outcomes
+pub mod Stopping
 pub mod Dependencies

@@ -9,3 +9,4 @@ pub mod ReadsBack
 pub mod Exact
 pub mod MarkedCases
 pub mod ELines
+pub mod ClashingVariable

@@ -23,7 +23,7 @@ pub extern "C" fn kefthrun_load(
 {
     if !buffers::is_whole(literals, ends, sets, kinds, state) {
         buffers::zero_state(state);
-        return results::pack(results::FORMULA_REFUSED, 0, results::TABLE_TOO_SHORT);
+        return results::pack(results::FORMULA_REFUSED, 0, results::TABLE_TOO_SHORT, 0);
     }
     load::load_whole(text, literals, ends, sets, kinds, state)
 }

@@ -20,7 +20,7 @@ pub extern "C" fn kefthrun_run(
         }) ⌝ }
 {
     if !buffers::is_whole(literals, ends, sets, kinds, state) {
-        return results::pack(results::BAD, 0, results::TABLE_TOO_SHORT);
+        return results::pack(results::BAD, 0, results::TABLE_TOO_SHORT, 0);
     }
     run::run_whole(records, literals, ends, sets, kinds, state)
 }

@@ -21,7 +21,7 @@ pub extern "C" fn kefthrun_variable(
     ensures { λ r. ⌜ r ≡ variableBytes (buffersOf (now (literals .entry)) (now (ends .entry)) (now (sets .entry)) (now (kinds .entry)) (now (state .entry))) variable ⌝ }
 {
     if !buffers::is_whole(literals, ends, sets, kinds, state) {
-        return results::pack(results::REFUSED, results::TABLE_TOO_SHORT, 0);
+        return results::pack(results::REFUSED, results::TABLE_TOO_SHORT, 0, 0);
     }
     let mut literal_table = [0i16; LITERAL_LIMIT];
     let mut end_table = [0u16; CLAUSE_LIMIT];

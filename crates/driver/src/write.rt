@@ -18,7 +18,7 @@ pub extern "C" fn kefthrun_write(
         (writeBytes (buffersOf (now (literals .entry)) (now (ends .entry)) (now (sets .entry)) (now (kinds .entry)) (now (state .entry))) (now (out .entry))) ⌝ }
 {
     if !buffers::is_whole(literals, ends, sets, kinds, state) {
-        return results::pack(results::REFUSED, results::TABLE_TOO_SHORT, 0);
+        return results::pack(results::REFUSED, results::TABLE_TOO_SHORT, 0, 0);
     }
     write::write_whole(out, literals, ends, sets, kinds, state)
 }

@@ -1,3 +1,4 @@
 pub mod Fits
+pub mod Named
 pub mod Short
 pub mod Written

@@ -11,7 +11,7 @@ use Rattle.dqbf.specs.Formula.{Formula}
 use Rattle.dqbf.specs.Meaning.{Refuted}
 use Rattle.dqbf.specs.Model.{Model, modelOf}
 use Rattle.dqbf.specs.Reading.{load, accepted, refused}
-use Rattle.dqbf.specs.Run.{run}
+use Rattle.dqbf.specs.Run.{Verdict, refuted, open′, bad, run}
 use Rattle.dqbf.specs.Valid.{Valid}
 use Rattle.dqbf.specs.Reading as Reading
 use Rattle.dqbf.specs.Run as Run
@@ -20,18 +20,14 @@ use Rattle.dqbf.proofs.StepsKeepValid.{call-keeps}
 use Rattle.tables.specs.Tables.{modelIn}
 use Rattle.tables.specs.Spread.{spread, stateOf}
 use Rattle.tables.specs.WellFormed.{long, wellFormed}
-use Rattle.tables.specs.declared.StepNumber.{StepNumber}
-use Rattle.tables.specs.declared.ClauseNumber.{ClauseNumber}
 use Rattle.tables.proofs.Laws.Spread.{valid-held, formed-spread}
 use Rattle.dqdimacs.specs.Loading.{loadAnswer, loadedModel, loadedOn, loadOf}
 use Rattle.steps.specs.Steps.{ranOn, runOf}
-use Rattle.steps.specs.declared.RunAnswer.{RunAnswer}
 use Rattle.steps.specs.Statements.Refutation.{Lent, answers}
-use Rattle.steps.specs.declared.RunAnswer.the-variants as RunAnswer
 use Rattle.steps.specs.Statements.Refutation as Lending
 use Rattle.steps.proofs.Refutation as Lent-tables
 use Rattle.buffers.specs.Buffers.{Buffers, whole, tablesIn, stateIn, written}
-use Rattle.results.specs.Results.{field, loadResult, runResult}
+use Rattle.results.specs.Results.{field, namedVariable, loadResult, runResult}
 use Rattle.exports.specs.Calls.{After, loaded, loadShort, loadBytes, ran, runBytes}
 use Rattle.exports.specs.Statements.Refutation.{Call, runCall, otherCall, next, runResults, Refutation}
 use Rattle.buffers.proofs.Laws.{lent-long}
@@ -40,11 +36,11 @@ use Rattle.exports.proofs.RoundTrip.{read-back}
 
 -- ---- results
 
-refuted-is : (x : RunAnswer) → field 0 (runResult x) ≡ 1 → (s : StepNumber) × (k : ClauseNumber) × (x ≡ RunAnswer.Refuted s k)
+refuted-is : (v : Verdict) → field 0 (runResult v) ≡ 1 → (s k : ℕ) × (v ≡ refuted s k)
 unfolding runResult
-refuted-is (RunAnswer.Refuted s k) h = (s, k, refl)
-refuted-is (RunAnswer.Open s) h = absurd (omega (arith, case-is 2 (s .0) 0 (omega arith)))
-refuted-is (RunAnswer.Bad s n) h = absurd (omega (arith, case-is 3 (s .0) n (omega arith)))
+refuted-is (refuted s k) h = (s, k, refl)
+refuted-is (open′ s) h = absurd (omega (arith, case-is 2 s 0 0 (omega arith)))
+refuted-is (bad s x) h = absurd (omega (arith, case-is 3 s (x .number) (namedVariable x) (omega arith)))
 
 -- ---- buffers as lent tables
 
@@ -71,9 +67,9 @@ module _ (b : Buffers) (m : Model) (w : whole b ≡ true) (v : Valid tables m) w
 
 -- ---- a run
 
-call : Call → Lending.Call
-call (runCall records) = Lending.runCall records
-call otherCall = Lending.otherCall
+call : Call → Run.Call
+call (runCall records) = Run.runCall records
+call otherCall = Run.otherCall
 
 module _ (b : Buffers) (g : Good b) (records : List ℕ) where
   model : Model
@@ -101,27 +97,27 @@ module _ (b : Buffers) (g : Good b) (records : List ℕ) where
   run-good : Good (next b (runCall records))
   run-good = rw buffers-are (after-good b ran-model (g .room) ran-valid)
 
-  run-lent : lentIn (next b (runCall records)) ≡ Lending.next (lentIn b) (Lending.runCall records)
+  run-lent : lentIn (next b (runCall records)) ≡ Lending.next (lentIn b) (Run.runCall records)
   unfolding Lending.next lentIn
   run-lent =
       ap lentIn buffers-are ∙ after-lent b ran-model (g .room) ran-valid
       ∙ (unfold ranOn ran-model in λ i. record { tables = sym run-is i .tables; state = sym run-is i .state })
 
   run-refuted : field 0 (runBytes b records .result) ≡ 1
-      → (s : StepNumber) × (k : ClauseNumber) × (Lending.ran (RunAnswer.Refuted s k) ≡ Lending.answer (lentIn b) (Lending.runCall records))
+      → (s k : ℕ) × (Run.ran (refuted s k) ≡ Lending.answer (lentIn b) (Run.runCall records))
   unfolding Lending.answer lentIn runBytes ran
   run-refuted h =
       let x = runOf (tablesIn b) (stateIn b) records .answer in
       let told : field 0 (runResult x) ≡ 1 = rw (g .room) at h in
       let r = refuted-is x told in
-      (r .0, r .1, ap Lending.ran (sym (r .2)))
+      (r .0, r .1, ap Run.ran (sym (r .2)))
 
-other-stays : (x : Lent) → Lending.next x Lending.otherCall ≡ x
+other-stays : (x : Lent) → Lending.next x Run.otherCall ≡ x
 unfolding Lending.next
 other-stays x = refl
 
 results-are : (b : Buffers) → Good b → (calls : List Call) (r : ℕ) → r ∈ runResults b calls → field 0 r ≡ 1
-    → (s : StepNumber) × (k : ClauseNumber) × (Lending.ran (RunAnswer.Refuted s k) ∈ answers (lentIn b) (map call calls))
+    → (s k : ℕ) × (Run.ran (refuted s k) ∈ answers (lentIn b) (map call calls))
 unfolding runResults answers call
 results-are b g [] r q h = absurd (List·Memᴰ·not-nil q)
 results-are b g (runCall records ∷ calls) r (List·Memᴰ·head e) h =
@@ -130,17 +126,17 @@ results-are b g (runCall records ∷ calls) r (List·Memᴰ·head e) h =
 results-are b g (runCall records ∷ calls) r (List·Memᴰ·tail q) h =
     let x = results-are (next b (runCall records)) (run-good b g records) calls r q h in
     (x .0, x .1, List·Memᴰ·tail (rw (run-lent b g records) at (x .2)))
-results-are b g (otherCall ∷ calls) r q h = let x = results-are b g calls r q h in (x .0, x .1, List·Memᴰ·tail {xs = answers (Lending.next (lentIn b) Lending.otherCall) (map call calls)} (rw (other-stays (lentIn b)) (x .2)))
+results-are b g (otherCall ∷ calls) r q h = let x = results-are b g calls r q h in (x .0, x .1, List·Memᴰ·tail {xs = answers (Lending.next (lentIn b) Run.otherCall) (map call calls)} (rw (other-stays (lentIn b)) (x .2)))
 
 -- ---- a load
 
 never-refused : (b : Buffers) (line number : ℕ) → field 0 (loaded b (loadedOn (tablesIn b) (refused line number)) .result) ≡ 1 → ⊥
 unfolding loaded loadedOn loadAnswer loadResult
-never-refused b line number h = omega (arith, case-is 4 line number (omega arith))
+never-refused b line number h = omega (arith, case-is 4 line number 0 (omega arith))
 
 never-short : (b : Buffers) → field 0 (loadShort b .result) ≡ 1 → ⊥
 unfolding loadShort loadResult
-never-short b h = omega (arith, case-is 4 0 1 (omega arith))
+never-short b h = omega (arith, case-is 4 0 1 0 (omega arith))
 
 module _ (b : Buffers) (text : List ℕ) where
   load-whole : (c : Bool) → whole b ≡ c → field 0 (loadBytes b text .result) ≡ 1 → whole b ≡ true

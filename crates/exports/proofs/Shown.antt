@@ -30,7 +30,7 @@ use Rattle.exports.specs.Statements.Fields.{fields}
 use Rattle.exports.specs.Statements.Shown.{Tells, ShowsTheClause, ShowsTheLength, ShowsNothing}
 use Rattle.buffers.proofs.Laws.{lent-long}
 use Rattle.results.proofs.Laws.{case-is, first-cut, second-cut, stretch-shown}
-use Rattle.exports.proofs.Fields.{fields-are}
+use Rattle.exports.proofs.Fields.{two-are}
 
 -- ---- place and length
 
@@ -43,7 +43,7 @@ module _ (t : Tables) (s : State) (lent : long t ≡ true) (small : length (t .l
       → start + length C ≤ length (t .literals) → Tells t s c result
   unfolding showResult
   stretch-tells start C p q there inside = record {
-    told = rw (p, q) (fields-are 1 start (length C) (omega arith) (omega arith) (omega arith));
+    told = rw (p, q) (two-are 1 start (length C) (omega arith) (omega arith) (omega arith));
     there = rw (p, q) there;
     inside = rw (p, q) inside;
   }
@@ -97,14 +97,14 @@ shows-the-clause b c w = rw w (tells (tablesIn b) (stateIn b) (lent-long b w) wi
 -- ---- beside the question about the length
 
 abbrev Beside : ℕ → ℕ → Type 0
-Beside asked shown = (field 0 asked ≡ 1 → field 2 shown ≡ field 1 asked) × (field 0 asked ≡ 2 → fields shown ≡ 1 ∷ 0 ∷ 0 ∷ [])
+Beside asked shown = (field 0 asked ≡ 1 → field 2 shown ≡ field 1 asked) × (field 0 asked ≡ 2 → fields shown ≡ 1 ∷ 0 ∷ 0 ∷ 0 ∷ [])
 
 answer-beside : (start : ℕ) (a : ClauseAnswer) → Beside (clauseResult a) (stretchResult start a)
 unfolding clauseResult stretchResult
 answer-beside start (clauseLength n) =
-    (λ h. second-cut 1 start n (omega arith) ∙ sym (first-cut 1 n 0 (omega arith)), λ h. absurd (omega (arith, h, case-is 1 n 0 (omega arith))))
+    (λ h. second-cut 1 start n 0 (omega arith) ∙ sym (first-cut 1 n 0 0 (omega arith)), λ h. absurd (omega (arith, h, case-is 1 n 0 0 (omega arith))))
 answer-beside start (noClause r) =
-    (λ h. absurd (omega (arith, h, case-is 2 (r .number) 0 (omega arith))), λ h. fields-are 1 0 0 (omega arith) (omega arith) (omega arith))
+    (λ h. absurd (omega (arith, h, case-is 2 (r .number) 0 0 (omega arith))), λ h. two-are 1 0 0 (omega arith) (omega arith) (omega arith))
 
 module _ (b : Buffers) (c : ℕ) where
   beside : (w : Bool) → whole b ≡ w → Beside (clauseBytes b c) (showBytes b c)

@@ -15,12 +15,12 @@ use mathlib.Core.List.{List, []}
 use Prim.Native.Nat.{ℕ}
 use lib.ListN.{replicate}
 use Rattle.dqbf.specs.Refusal.{refusal}
+use Rattle.dqbf.specs.Run.{bad}
 use Rattle.dqbf.specs.Questions.{noClause, noVariable}
 use Rattle.questions.specs.Answers.{lengthAnswer, variableAnswer, shownStart, shownClause}
 use Rattle.dqdimacs.specs.Loading.{AfterLoad, loadOf}
 use Rattle.dqdimacs.specs.declared.LoadAnswer.the-variants as Load
 use Rattle.steps.specs.Steps.{AfterRun, runOf}
-use Rattle.steps.specs.declared.RunAnswer.the-variants as Run
 use Rattle.formula_text.specs.Writing.{noText, AfterWrite, writeOf}
 use Rattle.codec.specs.Bytes.{Bytes, over}
 use Rattle.buffers.specs.Buffers.{Buffers, buffersOf, stateSize, stateWhole, whole, tablesIn, stateIn, written}
@@ -62,7 +62,7 @@ unfoldable pub ran : Buffers → AfterRun → After
 ran b r = record { buffers = written b (r .tables) (r .state); result = runResult (r .answer) }
 
 unfoldable pub runShort : Buffers → After
-runShort b = record { buffers = b; result = runResult (Run.Bad (record { 0 = 0 }) 1) }
+runShort b = record { buffers = b; result = runResult (bad 0 (refusal 1)) }
 
 abbrev pub runWhole : Buffers → List ℕ → After
 runWhole b records = ran b (runOf (tablesIn b) (stateIn b) records)

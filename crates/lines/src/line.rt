@@ -1,17 +1,19 @@
 // One line for each verdict.
+use dqbf::refusal::Refusal;
 ghost use mathlib.Core.Path.{_≡_};
-ghost use mathlib.Core.List.{[], _∷_, _++_};
-ghost use Prim.Native.Nat.{_≤_};
+ghost use mathlib.Core.List.{_∷_, _++_};
+ghost use Prim.Native.Nat.{_+_, _≤_};
 ghost use lib.ListN.{length, drop};
 ghost use Rattle.dqbf.specs.Text.{space};
 ghost use Rattle.dqbf.specs.Line.{digitsOf, spaced};
-ghost use Rattle.lines.specs.Lines.{lineOf, written, withLine};
+ghost use Rattle.lines.specs.Lines.{lineOf, outputSize, written, withLine};
+ghost use Rattle.lines.specs.declared.line.Verdict.the-variants.{Bad};
 
 // What is printed: accepted steps and lowest empty clause; accepted steps; a step with its refusal; a line of the formula with its refusal.
 pub enum Verdict {
     Refuted(u32, u32),
     Open(u32),
-    Bad(u32, u32),
+    Bad(u32, Refusal),
     Formula(u32, u32),
 }
 
@@ -39,54 +41,54 @@ fn write_word(out: &mut [u8], word: &[u8]) -> usize
 
 // A space and a number's digits.
 fn write_number(out: &mut [u8], n: u32) -> usize
-    requires { ⌜ 11 ≤ length (now out) ⌝ }
-    ensures { λ r. ⌜ (r ≤ 11) × (r ≡ length (space ∷ digitsOf n)) × (now (out .exit) ≡ (space ∷ digitsOf n) ++ drop (length (space ∷ digitsOf n)) (now (out .entry))) ⌝ }
+    requires { ⌜ length (space ∷ digitsOf n) ≤ length (now out) ⌝ }
+    ensures { λ r. ⌜ (r ≡ length (space ∷ digitsOf n)) × (now (out .exit) ≡ (space ∷ digitsOf n) ++ drop (length (space ∷ digitsOf n)) (now (out .entry))) ⌝ }
 {
     out[0] = 32;
     let count = crate::digits::write_digits(&mut out[1..], n);
     count + 1
 }
 
-// A number and the line feed.
-fn write_one(out: &mut [u8], n: u32) -> usize
-    requires { ⌜ 12 ≤ length (now out) ⌝ }
-    ensures { λ r. ⌜ (r ≤ 12) × (r ≡ length (spaced (n ∷ []))) × (now (out .exit) ≡ spaced (n ∷ []) ++ drop (length (spaced (n ∷ []))) (now (out .entry))) ⌝ }
+// Numbers, each behind a space, and the line feed.
+fn write_numbers(out: &mut [u8], numbers: &[u32]) -> usize
+    requires { ⌜ length (spaced (now numbers)) ≤ length (now out) ⌝ }
+    ensures { λ r. ⌜ (r ≡ length (spaced (now (numbers .entry))))
+        × (now (out .exit) ≡ spaced (now (numbers .entry)) ++ drop (length (spaced (now (numbers .entry)))) (now (out .entry))) ⌝ }
 {
-    let at = write_number(out, n);
+    let mut at = 0;
+    let mut i = 0;
+    while i < numbers.len() {
+        at += write_number(&mut out[at..], numbers[i]);
+        i += 1;
+    }
     out[at] = 10;
     at + 1
 }
 
-// Two numbers and the line feed.
-fn write_two(out: &mut [u8], n: u32, k: u32) -> usize
-    requires { ⌜ 23 ≤ length (now out) ⌝ }
-    ensures { λ r. ⌜ (r ≤ 23) × (r ≡ length (spaced (n ∷ k ∷ []))) × (now (out .exit) ≡ spaced (n ∷ k ∷ []) ++ drop (length (spaced (n ∷ k ∷ []))) (now (out .entry))) ⌝ }
+// A word, numbers and the line feed.
+fn write_word_numbers(out: &mut [u8], word: &[u8], numbers: &[u32]) -> usize
+    requires { ⌜ length (now word) + length (spaced (now numbers)) ≤ length (now out) ⌝ }
+    ensures { λ r. ⌜ (r ≡ length (now (word .entry) ++ spaced (now (numbers .entry))))
+        × (now (out .exit) ≡ (now (word .entry) ++ spaced (now (numbers .entry))) ++ drop (length (now (word .entry) ++ spaced (now (numbers .entry)))) (now (out .entry))) ⌝ }
 {
-    let at = write_number(out, n);
-    let rest = write_one(&mut out[at..], k);
+    let at = write_word(out, word);
+    let rest = write_numbers(&mut out[at..], numbers);
     at + rest
 }
 
-// A word, a number and the line feed.
-fn write_word_one(out: &mut [u8], word: &[u8], n: u32) -> usize
-    requires { ⌜ (length (now word) ≤ 9) × (32 ≤ length (now out)) ⌝ }
-    ensures { λ r. ⌜ (r ≡ length (now (word .entry) ++ spaced (n ∷ [])))
-        × (now (out .exit) ≡ (now (word .entry) ++ spaced (n ∷ [])) ++ drop (length (now (word .entry) ++ spaced (n ∷ []))) (now (out .entry))) ⌝ }
+// The step, the number of its refusal, and the variable that it names.
+fn write_bad(out: &mut [u8], step: u32, why: Refusal) -> usize
+    requires { ⌜ outputSize ≤ length (now out) ⌝ }
+    ensures { λ r. ⌜ (r ≡ length (lineOf (Bad step why))) × (now (out .exit) ≡ lineOf (Bad step why) ++ drop (length (lineOf (Bad step why))) (now (out .entry))) ⌝ }
 {
-    let at = write_word(out, word);
-    let rest = write_one(&mut out[at..], n);
-    at + rest
-}
-
-// A word, two numbers and the line feed.
-fn write_word_two(out: &mut [u8], word: &[u8], n: u32, k: u32) -> usize
-    requires { ⌜ (length (now word) ≤ 9) × (32 ≤ length (now out)) ⌝ }
-    ensures { λ r. ⌜ (r ≡ length (now (word .entry) ++ spaced (n ∷ k ∷ [])))
-        × (now (out .exit) ≡ (now (word .entry) ++ spaced (n ∷ k ∷ [])) ++ drop (length (now (word .entry) ++ spaced (n ∷ k ∷ []))) (now (out .entry))) ⌝ }
-{
-    let at = write_word(out, word);
-    let rest = write_two(&mut out[at..], n, k);
-    at + rest
+    match why {
+        Refusal::Plain(number) => write_word_numbers(out, b"bad", &[step, number as u32]),
+        Refusal::Naming(number, variable) => write_word_numbers(
+            out,
+            b"bad",
+            &[step, number as u32, variable as u32],
+        ),
+    }
 }
 
 // Writes the line to the front of `out`; the rest stays.
@@ -97,19 +99,17 @@ pub fn write_line(out: &mut [u8], verdict: Verdict) -> Written
         return Written::TooShort;
     }
     match verdict {
-        Verdict::Refuted(steps, clause) => Written::Bytes(write_word_two(
+        Verdict::Refuted(steps, clause) => Written::Bytes(write_word_numbers(
             out,
             b"refuted",
-            steps,
-            clause,
+            &[steps, clause],
         )),
-        Verdict::Open(steps) => Written::Bytes(write_word_one(out, b"open", steps)),
-        Verdict::Bad(step, number) => Written::Bytes(write_word_two(out, b"bad", step, number)),
-        Verdict::Formula(line, number) => Written::Bytes(write_word_two(
+        Verdict::Open(steps) => Written::Bytes(write_word_numbers(out, b"open", &[steps])),
+        Verdict::Bad(step, why) => Written::Bytes(write_bad(out, step, why)),
+        Verdict::Formula(line, number) => Written::Bytes(write_word_numbers(
             out,
             b"formula",
-            line,
-            number,
+            &[line, number],
         )),
     }
 }

@@ -1,4 +1,6 @@
 // For each number of numbers.bin (32 bits, little-endian) but the last: how many digits it has, and the line of each verdict, with the number behind it as the second.
+// A refused step has the low 16 bits of the second as its number, and once more with those of the first as the variable.
+use dqbf::refusal::Refusal;
 use libc::STDOUT_FILENO;
 use lines::digits;
 use lines::line;
@@ -30,12 +32,20 @@ fn print_line(verdict: Verdict) {
     }
 }
 
+fn low_bits(n: u32) -> u16 {
+    (n % 65536) as u16
+}
+
 fn print_number(n: u32, k: u32) {
+    let number = low_bits(k);
     io::print_decimal(STDOUT_FILENO, digits::digit_count(n) as u64);
     io::write_all(STDOUT_FILENO, b"\n");
     print_line(Verdict::Refuted(n, k));
     print_line(Verdict::Open(n));
-    print_line(Verdict::Bad(n, k));
+    let plain = Refusal::Plain(number);
+    print_line(Verdict::Bad(n, plain));
+    let naming = Refusal::Naming(number, low_bits(n));
+    print_line(Verdict::Bad(n, naming));
     print_line(Verdict::Formula(n, k));
 }
 

@@ -2,32 +2,33 @@
 use mathlib.Core.Path.{_≡_, refl, sym, ap, ap₂, _∙_}
 use mathlib.Core.Bool.{Bool, true, false}
 use mathlib.Core.List.{List, [], _∷_, _++_, map, append-nil}
+use mathlib.Core.Option.{some}
 use Prim.Native.Nat.{ℕ, zero, suc, _+_, _*_, _≤_}
 use lib.IntN.{pos}
 use lib.ListN.{length, take, drop, replicate, length-replicate, replicate-append-replicate, drop-of-length-le}
 use native.Mathlib.Nat.{mul-zero, mul-suc}
 use native.Mathlib.Omega.{arith}
 use Rattle.dqbf.specs.Limits.{clauseLimit, literalLimit, variableLimit, recordSize}
+use Rattle.dqbf.specs.Refusal.{Refusal}
+use Rattle.dqbf.specs.Run.{Verdict, refuted, open′, bad}
 use Rattle.tables.specs.Spread.{spread, stateOf, zeroState}
 use Rattle.tables.specs.declared.State.{State}
 use Rattle.dqdimacs.specs.Loading.{AfterLoad, loadOf}
 use Rattle.dqdimacs.specs.declared.LoadAnswer.{LoadAnswer}
 use Rattle.dqdimacs.specs.declared.LoadAnswer.the-variants as Load
-use Rattle.additions.specs.declared.StepAnswer.the-variants as Step
 use Rattle.steps.specs.Steps.{stepOf, runOf}
 use Rattle.steps.specs.Runs.{verdictIn}
-use Rattle.steps.specs.declared.RunAnswer.{RunAnswer}
-use Rattle.steps.specs.declared.RunAnswer.the-variants as Run
 use Rattle.codec.specs.Bytes.{digits, entries, bytesOf, bits, literalsIn, literalBytes, over}
 use Rattle.codec.specs.State.{counts, stateBytes}
 use Rattle.codec.proofs.Laws.Bytes.{entries-length}
 use Rattle.codec.proofs.Laws.Turns.{literals-length}
 use Rattle.buffers.specs.Buffers.{Buffers, whole, tablesIn, stateIn, written}
 use Rattle.buffers.proofs.Laws.{lent-long}
-use Rattle.results.specs.Results.{packed, field, runResult}
+use Rattle.results.specs.Results.{packed, field, namedVariable, refusalIn, runResult}
 use Rattle.exports.specs.Calls.{After, AllBytes, loaded, loadShort, loadBytes, ran, runShort, runBytes}
 use Rattle.exports.specs.Statements.Fields.{fields, loadFields, runFields}
 use Rattle.exports.proofs.Fields.{load-tells, run-tells}
+use Rattle.exports.proofs.Laws.Named.{Well, run-well}
 use Rattle.exports.proofs.RoundTrip.{same-bytes, read-back}
 use Rattle.refusals.specs.Statements.{RunBytesShort, LoadBytesShort, RunPromised, RunBytesStopped, Zeroed, zeroedBytes, LoadBytesZeroed}
 use Rattle.refusals.proofs.Tables.{run-holds, run-same, run-stopped, load-zeroed}
@@ -44,51 +45,57 @@ load-bytes-short b text h = rw h
 
 -- ---- a refused run
 
--- a result that tells a refusal is one of that answer
-told-bad : (a : RunAnswer) (step number : ℕ) → runFields a ≡ runFields (Run.Bad (record { 0 = step }) number) → a ≡ Run.Bad (record { 0 = step }) number
+-- a result that tells a refusal is that of such a verdict
+told-bad : (v : Verdict) (step number variable : ℕ) → ((k : ℕ) (r : Refusal) → v ≡ bad k r → Well r) → runFields v ≡ 3 ∷ step ∷ number ∷ variable ∷ []
+    → v ≡ bad step (refusalIn number variable)
 unfolding runFields
-told-bad (Run.Refuted s k) step number e = absurd (let z : _≡_ {A = ℕ} 0 2 = cc in omega arith)
-told-bad (Run.Open s) step number e = absurd (let z : _≡_ {A = ℕ} 1 2 = cc in omega arith)
-told-bad (Run.Bad s n) step number e =
-    let first : s .0 ≡ step = cc in
-    let second : n ≡ number = cc in
-    λ i. Run.Bad (record { 0 = first i }) (second i)
+told-bad (refuted s k) step number variable w e = absurd (let z : _≡_ {A = ℕ} 1 3 = cc in omega arith)
+told-bad (open′ s) step number variable w e = absurd (let z : _≡_ {A = ℕ} 2 3 = cc in omega arith)
+told-bad (bad s r) step number variable w e =
+    let first : s ≡ step = cc in
+    let second : r .number ≡ number = cc in
+    let third : namedVariable r ≡ variable = cc in
+    rw (← first, ← second, ← third, w s r refl .back)
 
 module _ (b : Buffers) (records : List ℕ) where
   whole-run : whole b ≡ true → runBytes b records ≡ ran b (runOf (tablesIn b) (stateIn b) records)
   unfolding runBytes
   whole-run w = rw w
 
-  run-answer : (step number : ℕ) → whole b ≡ true → fields (runBytes b records .result) ≡ runFields (Run.Bad (record { 0 = step }) number)
-      → runOf (tablesIn b) (stateIn b) records .answer ≡ Run.Bad (record { 0 = step }) number
-  run-answer step number w e = told-bad (runOf (tablesIn b) (stateIn b) records .answer) step number (sym (run-tells b records w) ∙ e)
+  run-answer : (step number variable : ℕ) → whole b ≡ true → fields (runBytes b records .result) ≡ 3 ∷ step ∷ number ∷ variable ∷ []
+      → runOf (tablesIn b) (stateIn b) records .answer ≡ bad step (refusalIn number variable)
+  run-answer step number variable w e =
+      told-bad (runOf (tablesIn b) (stateIn b) records .answer) step number variable (run-well (tablesIn b) (stateIn b) records) (sym (run-tells b records w) ∙ e)
 
-  same-whole : AllBytes b → (step number : ℕ) → step ≤ 1 → whole b ≡ true → fields (runBytes b records .result) ≡ runFields (Run.Bad (record { 0 = step }) number)
+  same-whole : AllBytes b → (step number variable : ℕ) → step ≤ 1 → whole b ≡ true → fields (runBytes b records .result) ≡ 3 ∷ step ∷ number ∷ variable ∷ []
       → runBytes b records .buffers ≡ b
   unfolding ran
-  same-whole k step number f w e =
-      let same = run-same (tablesIn b) (stateIn b) records step number f (run-answer step number w e) in
+  same-whole k step number variable f w e =
+      let same = run-same (tablesIn b) (stateIn b) records step (refusalIn number variable) f (run-answer step number variable w e) in
       rw (whole-run w, same) (same-bytes b w k)
 
 -- what `kefthrun_run` promises of a call
 pub run-bytes-same : (b : Buffers) (records : List ℕ) → AllBytes b → {x : After} → x ≡ runBytes b records → RunPromised b records x
-run-bytes-same b records k {x} is = (is, λ step number f e. ap (λ (y : After). y .buffers) is ∙ by step number f (sym (ap (λ (y : After). fields (y .result)) is) ∙ e) (whole b) refl)
+run-bytes-same b records k {x} is = (is, λ step number variable f e. ap (λ (y : After). y .buffers) is ∙ by step number variable f (sym (ap (λ (y : After). fields (y .result)) is) ∙ e) (whole b) refl)
   where
-    by : (step number : ℕ) → step ≤ 1 → fields (runBytes b records .result) ≡ runFields (Run.Bad (record { 0 = step }) number) → (c : Bool) → whole b ≡ c
+    by : (step number variable : ℕ) → step ≤ 1 → fields (runBytes b records .result) ≡ 3 ∷ step ∷ number ∷ variable ∷ [] → (c : Bool) → whole b ≡ c
         → runBytes b records .buffers ≡ b
-    by step number f e true w = same-whole b records k step number f w e
-    by step number f e false w = ap (λ (y : After). y .buffers) (run-bytes-short b records w)
+    by step number variable f e true w = same-whole b records k step number variable f w e
+    by step number variable f e false w = ap (λ (y : After). y .buffers) (run-bytes-short b records w)
 
 -- what a stopped run leaves is read back
-module _ (b : Buffers) (records : List ℕ) (k number : ℕ) (w : whole b ≡ true) (e : fields (runBytes b records .result) ≡ runFields (Run.Bad (record { 0 = suc k }) number)) where
-  answered : runOf (tablesIn b) (stateIn b) records .answer ≡ Run.Bad (record { 0 = suc k }) number
-  answered = run-answer b records (suc k) number w e
+module _ (b : Buffers) (records : List ℕ) (k number variable : ℕ) (w : whole b ≡ true) (e : fields (runBytes b records .result) ≡ 3 ∷ suc k ∷ number ∷ variable ∷ []) where
+  abbrev r : Refusal
+  r = refusalIn number variable
+
+  answered : runOf (tablesIn b) (stateIn b) records .answer ≡ bad (suc k) r
+  answered = run-answer b records (suc k) number variable w e
 
   left-back : (tablesIn (runBytes b records .buffers) ≡ runOf (tablesIn b) (stateIn b) records .tables)
       × (stateIn (runBytes b records .buffers) ≡ runOf (tablesIn b) (stateIn b) records .state)
   unfolding ran
   left-back =
-      let (m, valid, held, counts) = run-holds (tablesIn b) (stateIn b) records number k answered in
+      let (m, valid, held, counts) = run-holds (tablesIn b) (stateIn b) records r k answered in
       let left : runBytes b records .buffers ≡ written b (spread m (tablesIn b)) (stateOf m) =
       ap (λ (x : After). x .buffers) (whole-run b records w) ∙ ap₂ (written b) held counts in
       let back = read-back b m w valid in
@@ -96,21 +103,21 @@ module _ (b : Buffers) (records : List ℕ) (k number : ℕ) (w : whole b ≡ tr
 
   stopped-left : (runBytes b (take (recordSize * k) records)
       ≡ record { buffers = runBytes b records .buffers; result = runResult (verdictIn (stateIn (runBytes b records .buffers))) })
-      × (stepOf (tablesIn (runBytes b records .buffers)) (stateIn (runBytes b records .buffers)) (drop (recordSize * k) records) .answer ≡ Step.Refused number)
+      × (stepOf (tablesIn (runBytes b records .buffers)) (stateIn (runBytes b records .buffers)) (drop (recordSize * k) records) .answer ≡ some r)
   unfolding ran
   stopped-left =
-      let stopped = run-stopped (tablesIn b) (stateIn b) records k number answered in
+      let stopped = run-stopped (tablesIn b) (stateIn b) records k r answered in
       (rw (left-back .1, whole-run b (take (recordSize * k) records) w, stopped .0, whole-run b records w), rw (left-back .0, left-back .1) (stopped .1))
 
 pub run-bytes-stopped : RunBytesStopped
-unfolding runShort fields runFields runResult packed field
-run-bytes-stopped b records k number e = by (whole b) refl
+unfolding runShort fields runResult namedVariable packed field
+run-bytes-stopped b records k number variable e = by (whole b) refl
   where
     by : (c : Bool) → whole b ≡ c
         → (runBytes b (take (recordSize * k) records)
         ≡ record { buffers = runBytes b records .buffers; result = runResult (verdictIn (stateIn (runBytes b records .buffers))) })
-        × (stepOf (tablesIn (runBytes b records .buffers)) (stateIn (runBytes b records .buffers)) (drop (recordSize * k) records) .answer ≡ Step.Refused number)
-    by true w = stopped-left b records k number w e
+        × (stepOf (tablesIn (runBytes b records .buffers)) (stateIn (runBytes b records .buffers)) (drop (recordSize * k) records) .answer ≡ some (refusalIn number variable))
+    by true w = stopped-left b records k number variable w e
     by false w =
         let told = sym (ap (λ (x : After). fields (x .result)) (run-bytes-short b records w)) ∙ e in
         absurd (let z : _≡_ {A = ℕ} 0 (suc k) = cc in omega (arith, z))

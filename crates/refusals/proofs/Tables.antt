@@ -2,8 +2,9 @@
 use mathlib.Core.Path.{_≡_, refl, sym, ap, _∙_}
 use mathlib.Core.Bool.{Bool, true, false, cond, not}
 use mathlib.Core.List.{List, [], _∷_}
+use mathlib.Core.Option.{some}
 use Prim.Native.Nat.{ℕ, zero, suc, _+_, _*_, _≤_}
-use lib.Dec.{eqb, ltb}
+use lib.Dec.{ltb}
 use lib.ListN.{length, take, drop, getD, length-take, length-drop}
 use lib.Seq.{take-nil, drop-nil, take-take, drop-drop}
 use native.Mathlib.Omega.{arith}
@@ -11,29 +12,26 @@ use borrow.Author.Tests.{ltb-false, le-ltb, lt-ltb}
 use Rattle.dqbf.specs.Limits.{Room, tables, recordsLimit, recordSize}
 use Rattle.dqbf.specs.Refusal.{Refusal, refusal}
 use Rattle.dqbf.specs.Record.{stretches}
-use Rattle.dqbf.specs.Model.{Model, clauses, steps, lowestEmpty}
-use Rattle.dqbf.specs.Rules.{add}
-use Rattle.dqbf.specs.Run.{Examined, accepts, refuses, after, examineBytes, Verdict, refuted, open′, bad, verdictOf, goOn, runFrom, run}
+use Rattle.dqbf.specs.Model.{Model, clauses}
+use Rattle.dqbf.specs.Run.{Examined, accepts, refuses, after, refusalOf, examineBytes, bad, verdictOf, runFrom, run}
 use Rattle.dqbf.specs.Run as Calculus
 use Rattle.dqbf.specs.Valid.{Valid}
 use Rattle.dqbf.specs.Reading.{Loaded, accepted, refused, load}
 use Rattle.dqbf.proofs.LoadValid.{load-valid}
+use Rattle.dqbf.proofs.Laws.Stopping.{stopped-at}
 use Rattle.dqbf.proofs.StepsKeepValid.{call-keeps}
 use Rattle.records.proofs.Laws.Records.{record-front}
 use Rattle.tables.specs.Tables.{Tables, modelIn}
 use Rattle.tables.specs.Spread.{flat, endsFrom, kindRow, setRow, over, spread, stateOf}
 use Rattle.tables.specs.WellFormed.{long, wellFormed}
 use Rattle.tables.specs.declared.State.{State}
-use Rattle.tables.specs.declared.StepNumber.{StepNumber}
 use Rattle.tables.specs.Statements.{Framed}
 use Rattle.tables.proofs.Refinement.{rest-stays}
 use Rattle.tables.proofs.Laws.Spread.{model-held, state-held, valid-held, model-back, formed-spread, long-spread, blank-valid, blank-state}
 use Rattle.dqdimacs.specs.Loading.{loadedModel, loadedOn, loadShort, loadOf}
 use Rattle.dqdimacs.proofs.LoadFormed.{refused-zeroed}
-use Rattle.additions.specs.declared.StepAnswer.the-variants.{Refused}
-use Rattle.steps.specs.Steps.{AfterStep, stepAnswer, examined, stepRefused, stepOf, AfterRun, runAnswer, ranOn, runRefused, runOf}
+use Rattle.steps.specs.Steps.{AfterStep, examined, stepRefused, stepOf, AfterRun, ranOn, runRefused, runOf}
 use Rattle.steps.specs.Runs.{recordsIn, verdictIn}
-use Rattle.steps.specs.declared.RunAnswer.the-variants.{Refuted, Open, Bad}
 use Rattle.steps.proofs.Laws.Runs.{stretches-enough}
 use Rattle.lines.specs.Lines.{outputSize, written, withLine}
 use Rattle.verdict.proofs.Laws.Judging.{judged-refused, judged-ran}
@@ -51,17 +49,17 @@ formless-same t s bytes h k = (rw (h, k), rw (h, k))
 
 -- ---- a refused step
 
-module _ (t : Tables) (s : State) (n : ℕ) where
+module _ (t : Tables) (s : State) (r : Refusal) where
   abbrev same : AfterStep
-  same = record { tables = t; state = s; answer = Refused n }
+  same = record { tables = t; state = s; answer = some r }
 
-  same-examined : long t ≡ true → wellFormed t s ≡ true → (e : Examined) → examined t (modelIn t s) e .answer ≡ Refused n → examined t (modelIn t s) e ≡ same
-  unfolding examined stepAnswer after
+  same-examined : long t ≡ true → wellFormed t s ≡ true → (e : Examined) → examined t (modelIn t s) e .answer ≡ some r → examined t (modelIn t s) e ≡ same
+  unfolding examined refusalOf after
   same-examined h k (accepts a) e = absurd (let z : _≡_ {A = ℕ} 0 1 = cc in omega arith)
   same-examined h k (refuses x) e = λ i. record { tables = model-held t s h k i; state = state-held t s h k i; answer = e i }
 
   step-by : (a b : Bool) → a ≡ long t → b ≡ wellFormed t s → (e : Examined)
-      → cond (not a) (stepRefused t s 1) (cond (not b) (stepRefused t s 2) (examined t (modelIn t s) e)) .answer ≡ Refused n
+      → cond (not a) (stepRefused t s 1) (cond (not b) (stepRefused t s 2) (examined t (modelIn t s) e)) .answer ≡ some r
       → cond (not a) (stepRefused t s 1) (cond (not b) (stepRefused t s 2) (examined t (modelIn t s) e)) ≡ same
   unfolding stepRefused
   step-by false b h k e q = λ i. record { tables = t; state = s; answer = q i }
@@ -70,40 +68,7 @@ module _ (t : Tables) (s : State) (n : ℕ) where
 
 pub step-same : StepSame
 unfolding stepOf
-step-same t s bytes n q = step-by t s n (long t) (wellFormed t s) refl refl (examineBytes tables (modelIn t s) bytes) q
-
--- ---- a run of the calculus that stops
-
--- a verdict at the end of the list is not bad
-ended-good : (m : Model) (k : ℕ) (x : Refusal) → verdictOf m ≡ bad k x → ⊥
-unfolding verdictOf
-ended-good m k x e = by (eqb (lowestEmpty m) 0) e
-  where
-    by : (b : Bool) → cond b (open′ (steps m)) (refuted (steps m) (lowestEmpty m)) ≡ bad k x → ⊥
-    by true e = let z : _≡_ {A = ℕ} 0 1 = cc in omega arith
-    by false e = let z : _≡_ {A = ℕ} 0 1 = cc in omega arith
-
--- what the records before the refused one leave, and that it is refused there
-record Stopped (room : Room) (l : List (List ℕ)) (n : ℕ) (m : Model) (k : ℕ) (x : Refusal) : Type 0 where
-  before : ℕ
-  step : k ≡ suc (n + before)
-  front : runFrom room (take before l) n m ≡ record { model = runFrom room l n m .model; verdict = verdictOf (runFrom room l n m .model) }
-  refused : examineBytes room (runFrom room l n m .model) (getD l before []) ≡ refuses x
-
-stopped-at : (room : Room) (l : List (List ℕ)) (n : ℕ) (m : Model) (k : ℕ) (x : Refusal) → runFrom room l n m .verdict ≡ bad k x → Stopped room l n m k x
-unfolding runFrom goOn
-stopped-at room [] n m k x e = absurd (ended-good m k x e)
-stopped-at room (bs ∷ rest) n m k x e = going (λ m′ q. stopped-at room rest (suc n) m′ k x q) (examineBytes room m bs) refl e
-  where
-    going : ((m′ : Model) → runFrom room rest (suc n) m′ .verdict ≡ bad k x → Stopped room rest (suc n) m′ k x) → (w : Examined) → examineBytes room m bs ≡ w
-        → goOn w m (suc n) (λ m′. runFrom room rest (suc n) m′) .verdict ≡ bad k x → Stopped room (bs ∷ rest) n m k x
-    going later (accepts a) h e =
-        let s = later (add m a) e in
-        record { before = suc (s .before); step = omega (arith, s .step); front = rw h (s .front); refused = rw h (s .refused) }
-    going later (refuses y) h e =
-        let number : suc n ≡ k = cc in
-        let same : y ≡ x = cc in
-        record { before = 0; step = omega (arith, number); front = rw h; refused = rw h (h ∙ ap refuses same) }
+step-same t s bytes r q = step-by t s r (long t) (wellFormed t s) refl refl (examineBytes tables (modelIn t s) bytes) q
 
 -- ---- the bytes of the records before a step
 
@@ -189,42 +154,26 @@ module _ (m : Model) (bytes : List ℕ) (x : Refusal) where
 
 -- ---- a refused run
 
--- the verdict of an answer that names a step
-told-bad : (v : Verdict) (k n : ℕ) → runAnswer v ≡ Bad (record { 0 = k }) n → (x : Refusal) × (v ≡ bad k x) × (x .number ≡ n)
-unfolding runAnswer
-told-bad (refuted a b) k n e = absurd (let z : _≡_ {A = ℕ} 0 1 = cc in omega arith)
-told-bad (open′ a) k n e = absurd (let z : _≡_ {A = ℕ} 0 1 = cc in omega arith)
-told-bad (bad a x) k n e =
-    let step : _≡_ {A = StepNumber} (record { 0 = a }) (record { 0 = k }) = cc in
-    (x, ap (λ (i : StepNumber). bad (i .0) x) step, cc)
-
 -- the verdict of a state
-verdict-told : (m : Model) → runAnswer (verdictOf m) ≡ verdictIn (stateOf m)
-unfolding runAnswer verdictOf verdictIn stateOf
-verdict-told m = by (eqb (lowestEmpty m) 0)
-  where
-    by : (b : Bool)
-        → runAnswer (cond b (open′ (steps m)) (refuted (steps m) (lowestEmpty m)))
-        ≡ cond b (Open (record { 0 = steps m })) (Refuted (record { 0 = steps m }) (record { 0 = lowestEmpty m }))
-    by true = refl
-    by false = refl
+verdict-told : (m : Model) → verdictOf m ≡ verdictIn (stateOf m)
+unfolding verdictOf verdictIn stateOf
+verdict-told m = refl
 
 run-valid : (m : Model) (bytes : List ℕ) → Valid tables m → Valid tables (run tables m bytes .model)
 unfolding Calculus.next
 run-valid m bytes v = call-keeps tables m v (Calculus.runCall bytes)
 
-module _ (t : Tables) (s : State) (bytes : List ℕ) (n : ℕ) where
+module _ (t : Tables) (s : State) (bytes : List ℕ) (r : Refusal) where
   abbrev runBy : Bool → Bool → AfterRun
   runBy a b = cond (not a) (runRefused t s 1) (cond (not b) (runRefused t s 2) (ranOn t (run tables (modelIn t s) bytes)))
 
-  whole-by : (step : ℕ) → step ≤ 1 → (a b : Bool) → a ≡ long t → b ≡ wellFormed t s → runBy a b .answer ≡ Bad (record { 0 = step }) n
-      → runBy a b ≡ record { tables = t; state = s; answer = Bad (record { 0 = step }) n }
+  whole-by : (step : ℕ) → step ≤ 1 → (a b : Bool) → a ≡ long t → b ≡ wellFormed t s → runBy a b .answer ≡ bad step r
+      → runBy a b ≡ record { tables = t; state = s; answer = bad step r }
   unfolding runRefused ranOn
   whole-by step f false b h k e = λ i. record { tables = t; state = s; answer = e i }
   whole-by step f true false h k e = λ i. record { tables = t; state = s; answer = e i }
   whole-by step f true true h k e =
-      let q = told-bad (run tables (modelIn t s) bytes .verdict) step n e in
-      let kept = run-whole (modelIn t s) bytes (q .0) step f (q .1) in
+      let kept = run-whole (modelIn t s) bytes r step f e in
       λ i. record {
         tables = (ap (λ (m : Model). spread m t) kept ∙ model-held t s (sym h) (sym k)) i;
         state = (ap stateOf kept ∙ state-held t s (sym h) (sym k)) i;
@@ -235,41 +184,40 @@ module _ (t : Tables) (s : State) (bytes : List ℕ) (n : ℕ) where
     abbrev Stopping : AfterRun → Type 0
     Stopping z =
         (runOf t s (take (recordSize * k) bytes) ≡ record { tables = z .tables; state = z .state; answer = verdictIn (z .state) })
-        × (stepOf (z .tables) (z .state) (drop (recordSize * k) bytes) .answer ≡ Refused n)
+        × (stepOf (z .tables) (z .state) (drop (recordSize * k) bytes) .answer ≡ some r)
 
-    stopped-by : (a b : Bool) → a ≡ long t → b ≡ wellFormed t s → runBy a b .answer ≡ Bad (record { 0 = suc k }) n → Stopping (runBy a b)
-    unfolding runRefused ranOn runOf stepOf examined stepAnswer
-    stopped-by false b h j e = absurd (let z : _≡_ {A = StepNumber} (record { 0 = 0 }) (record { 0 = suc k }) = cc in omega (arith, ap (λ (i : StepNumber). i .0) z))
-    stopped-by true false h j e = absurd (let z : _≡_ {A = StepNumber} (record { 0 = 0 }) (record { 0 = suc k }) = cc in omega (arith, ap (λ (i : StepNumber). i .0) z))
+    stopped-by : (a b : Bool) → a ≡ long t → b ≡ wellFormed t s → runBy a b .answer ≡ bad (suc k) r → Stopping (runBy a b)
+    unfolding runRefused ranOn runOf stepOf examined refusalOf
+    stopped-by false b h j e = absurd (let z : _≡_ {A = ℕ} 0 (suc k) = cc in omega (arith, z))
+    stopped-by true false h j e = absurd (let z : _≡_ {A = ℕ} 0 (suc k) = cc in omega (arith, z))
     stopped-by true true h j e =
         let m = run tables (modelIn t s) bytes .model in
-        let q = told-bad (run tables (modelIn t s) bytes .verdict) (suc k) n e in
-        let f = run-front (modelIn t s) bytes (q .0) k (q .1) in
+        let f = run-front (modelIn t s) bytes r k e in
         let v : Valid tables m = run-valid (modelIn t s) bytes (valid-held t s (sym h) (sym j)) in (
           rw (← h, ← j, f .0, verdict-told m),
-          rw (long-spread m v t (sym h), formed-spread m v t, model-back m v t, f .1) (ap Refused (q .2)),
+          rw (long-spread m v t (sym h), formed-spread m v t, model-back m v t, f .1),
         )
 
-    holds-by : (a b : Bool) → a ≡ long t → b ≡ wellFormed t s → runBy a b .answer ≡ Bad (record { 0 = suc k }) n
+    holds-by : (a b : Bool) → a ≡ long t → b ≡ wellFormed t s → runBy a b .answer ≡ bad (suc k) r
         → (m : Model) × Valid tables m × (runBy a b .tables ≡ spread m t) × (runBy a b .state ≡ stateOf m)
     unfolding runRefused ranOn
-    holds-by false b h j e = absurd (let z : _≡_ {A = StepNumber} (record { 0 = 0 }) (record { 0 = suc k }) = cc in omega (arith, ap (λ (i : StepNumber). i .0) z))
-    holds-by true false h j e = absurd (let z : _≡_ {A = StepNumber} (record { 0 = 0 }) (record { 0 = suc k }) = cc in omega (arith, ap (λ (i : StepNumber). i .0) z))
+    holds-by false b h j e = absurd (let z : _≡_ {A = ℕ} 0 (suc k) = cc in omega (arith, z))
+    holds-by true false h j e = absurd (let z : _≡_ {A = ℕ} 0 (suc k) = cc in omega (arith, z))
     holds-by true true h j e = (run tables (modelIn t s) bytes .model, run-valid (modelIn t s) bytes (valid-held t s (sym h) (sym j)), refl, refl)
 
     -- what a stopped run leaves is a valid model's
-    pub run-holds : runOf t s bytes .answer ≡ Bad (record { 0 = suc k }) n
+    pub run-holds : runOf t s bytes .answer ≡ bad (suc k) r
         → (m : Model) × Valid tables m × (runOf t s bytes .tables ≡ spread m t) × (runOf t s bytes .state ≡ stateOf m)
     unfolding runOf
     run-holds e = holds-by (long t) (wellFormed t s) refl refl e
 
 pub run-same : RunSame
 unfolding runOf
-run-same t s bytes step n f e = whole-by t s bytes n step f (long t) (wellFormed t s) refl refl e
+run-same t s bytes step r f e = whole-by t s bytes r step f (long t) (wellFormed t s) refl refl e
 
 pub run-stopped : RunStopped
 unfolding runOf
-run-stopped t s bytes k n e = stopped-by t s bytes n k (long t) (wellFormed t s) refl refl e
+run-stopped t s bytes k r e = stopped-by t s bytes r k (long t) (wellFormed t s) refl refl e
 
 -- ---- a refused formula
 

@@ -1,13 +1,14 @@
 -- DEMAND 1, "refusals leave exactly the stated contents" (document 01, "Numbers of refusal": "After 1 and 2 tables and state are unchanged", to "as before that
 -- step"): what each refused call leaves.
 --
--- `loadOf`, `stepOf` and `runOf` are the outcomes that the contracts of `load`, `step` and `run` promise of lent tables. So the claims hold of these calls for all
--- table contents, every state and all bytes; `long` is the test of number 1, `wellFormed` that of number 2.
+-- `loadOf`, `stepOf` and `runOf` are the outcomes that the contracts of `load`, `step` and `run` promise of lent tables (`stepTold` and `runTold` give the answer
+-- for each case of the code's). So the claims hold of these calls for all table contents, every state and all bytes; `long` is the test of number 1, `wellFormed` that of number 2.
 --     ShortSame          number 1: load, step and run leave all four tables, step and run the state; a load hands back a zero state
 --     FormlessSame       number 2: step and run leave tables and state
 --     StepSame           a refused step, whatever its number, leaves tables and state
 --     RunSame            a run that is refused as a whole (step 0) or at its first record (step 1) leaves tables and state
---     RunStopped         a run stopped at a step leaves what the run over the records before that step leaves
+--     RunStopped         a run stopped at a step leaves what the run over the records before that step leaves, and there the step is refused as the run tells
+--     StepNames, RunNames      what the refusal of a step and of a run names (document 02, Note 4)
 --     LoadZeroed         a refused formula leaves zeros over the stated sizes, the entries past them, and a zero state
 --     RestSame           entries past the stated sizes stay, whatever a load, a step or a run answers
 --     JudgeLeaves        `judge` leaves the tables of the load or, behind an accepted one, those of the run, so that all of the above holds of it
@@ -17,7 +18,7 @@
 -- promises `RunBytesSame` itself (`RunPromised`). The other exports write nothing to the buffers: they borrow them for reading.
 --     RunBytesShort      number 1: a run leaves every buffer
 --     RunBytesSame       a run that is refused as a whole (1, 2, 11) or at its first record leaves every buffer, byte for byte
---     RunBytesStopped    a run stopped at a step leaves the bytes that the run over the records before that step leaves
+--     RunBytesStopped    a run stopped at a step leaves the bytes that the run over the records before that step leaves, and there the step is refused as the result tells
 --     LoadBytesShort     number 1: a load leaves every buffer, except that it zeroes a state lent whole
 --     LoadBytesZeroed    a refused formula leaves the stated bytes 0 and the bytes past them
 -- `writeOf` and `writeBytes` are the outcomes that the contracts of `write_formula` and of the export `kefthrun_write` promise of the output (document 02, Note 1).
@@ -27,32 +28,33 @@
 --     WriteBytesShort                number 1: too few bytes in any buffer
 use mathlib.Core.Path.{_≡_}
 use mathlib.Core.Bool.{true, false, cond}
-use mathlib.Core.List.{List, _++_}
+use mathlib.Core.List.{List, [], _∷_, _++_}
+use mathlib.Core.Option.{some}
 use Prim.Native.Nat.{ℕ, suc, _+_, _*_, _≤_, _<_}
 use lib.IntN.{pos}
 use lib.ListN.{length, replicate, take, drop}
 use Rattle.dqbf.specs.Limits.{clauseLimit, literalLimit, variableLimit, recordSize}
 use Rattle.dqbf.specs.Refusal.{Refusal, refusal}
-use Rattle.tables.specs.Tables.{Tables}
+use Rattle.dqbf.specs.Run.{bad}
+use Rattle.dqbf.specs.Statements.ClashingVariable.{Named}
+use Rattle.tables.specs.Tables.{Tables, modelIn}
 use Rattle.tables.specs.Statements.{Framed}
 use Rattle.tables.specs.Spread.{zeroState}
 use Rattle.tables.specs.WellFormed.{long, wellFormed}
 use Rattle.tables.specs.declared.State.{State}
 use Rattle.dqdimacs.specs.Loading.{AfterLoad, loadOf}
 use Rattle.dqdimacs.specs.declared.LoadAnswer.the-variants as Load
-use Rattle.additions.specs.declared.StepAnswer.the-variants as Step
 use Rattle.steps.specs.Steps.{stepOf, runOf}
 use Rattle.steps.specs.Runs.{verdictIn}
-use Rattle.steps.specs.declared.RunAnswer.the-variants as Run
 use Rattle.formula_text.specs.Writing.{textLength, noText, writeOf}
 use Rattle.lines.specs.Lines.{outputSize, written, withLine}
 use Rattle.lines.specs.declared.line.Written.the-variants.{TooShort}
 use Rattle.verdict.specs.Judging.{judgedTables}
 use Rattle.codec.specs.Bytes.{over}
 use Rattle.buffers.specs.Buffers.{Buffers, buffersOf, stateSize, stateWhole, whole, tablesIn, stateIn}
-use Rattle.results.specs.Results.{field, loadResult, runResult, writeResult}
+use Rattle.results.specs.Results.{field, refusalIn, loadResult, runResult, writeResult}
 use Rattle.exports.specs.Calls.{After, loadBytes, runBytes, writeBytes}
-use Rattle.exports.specs.Statements.Fields.{fields, loadFields, runFields}
+use Rattle.exports.specs.Statements.Fields.{fields, loadFields}
 
 -- ---- 1 and 2
 
@@ -61,37 +63,50 @@ abbrev pub ShortSame : Type 0
 ShortSame =
     (t : Tables) (s : State) (bytes : List ℕ) → long t ≡ false
     → (loadOf t bytes ≡ record { tables = t; state = zeroState; answer = Load.Refused 0 1 })
-    × (stepOf t s bytes ≡ record { tables = t; state = s; answer = Step.Refused 1 })
-    × (runOf t s bytes ≡ record { tables = t; state = s; answer = Run.Bad (record { 0 = 0 }) 1 })
+    × (stepOf t s bytes ≡ record { tables = t; state = s; answer = some (refusal 1) })
+    × (runOf t s bytes ≡ record { tables = t; state = s; answer = bad 0 (refusal 1) })
 
 -- "2: tables not well formed"
 abbrev pub FormlessSame : Type 0
 FormlessSame =
     (t : Tables) (s : State) (bytes : List ℕ) → long t ≡ true → wellFormed t s ≡ false
-    → (stepOf t s bytes ≡ record { tables = t; state = s; answer = Step.Refused 2 })
-    × (runOf t s bytes ≡ record { tables = t; state = s; answer = Run.Bad (record { 0 = 0 }) 2 })
+    → (stepOf t s bytes ≡ record { tables = t; state = s; answer = some (refusal 2) })
+    × (runOf t s bytes ≡ record { tables = t; state = s; answer = bad 0 (refusal 2) })
 
 -- ---- "after a step's refusal tables and state are as before that step"
 
 abbrev pub StepSame : Type 0
 StepSame =
-    (t : Tables) (s : State) (bytes : List ℕ) (number : ℕ) → stepOf t s bytes .answer ≡ Step.Refused number
-    → stepOf t s bytes ≡ record { tables = t; state = s; answer = Step.Refused number }
+    (t : Tables) (s : State) (bytes : List ℕ) (r : Refusal) → stepOf t s bytes .answer ≡ some r
+    → stepOf t s bytes ≡ record { tables = t; state = s; answer = some r }
 
 -- refused as a whole (step 0: 1, 2, and 11 for a list that is too long) or at its first record (step 1)
 abbrev pub RunSame : Type 0
 RunSame =
-    (t : Tables) (s : State) (bytes : List ℕ) (step number : ℕ) → step ≤ 1 → runOf t s bytes .answer ≡ Run.Bad (record { 0 = step }) number
-    → runOf t s bytes ≡ record { tables = t; state = s; answer = Run.Bad (record { 0 = step }) number }
+    (t : Tables) (s : State) (bytes : List ℕ) (step : ℕ) (r : Refusal) → step ≤ 1 → runOf t s bytes .answer ≡ bad step r
+    → runOf t s bytes ≡ record { tables = t; state = s; answer = bad step r }
 
 -- Stopped at step k + 1: tables and state are those of the run over the k records before it, which is not refused but tells its verdict, and on these
--- tables and this state the step is refused with that number.
+-- tables and this state the step is refused as the run tells, with the same number and values.
 abbrev pub RunStopped : Type 0
 RunStopped =
-    (t : Tables) (s : State) (bytes : List ℕ) (k number : ℕ) → runOf t s bytes .answer ≡ Run.Bad (record { 0 = suc k }) number
+    (t : Tables) (s : State) (bytes : List ℕ) (k : ℕ) (r : Refusal) → runOf t s bytes .answer ≡ bad (suc k) r
     → let stopped = runOf t s bytes in
     (runOf t s (take (recordSize * k) bytes) ≡ record { tables = stopped .tables; state = stopped .state; answer = verdictIn (stopped .state) })
-    × (stepOf (stopped .tables) (stopped .state) (drop (recordSize * k) bytes) .answer ≡ Step.Refused number)
+    × (stepOf (stopped .tables) (stopped .state) (drop (recordSize * k) bytes) .answer ≡ some r)
+
+-- ---- "the lowest variable that the resolvent holds in both signs" (document 02, Note 4)
+
+-- `Named` (dqbf, specs/Statements/ClashingVariable.antt): 23 is of a resolution and names that variable of its resolvent, and every other refusal has no value
+abbrev pub StepNames : Type 0
+StepNames = (t : Tables) (s : State) (bytes : List ℕ) (r : Refusal) → stepOf t s bytes .answer ≡ some r → Named (modelIn t s) bytes r
+
+-- A run that is refused as a whole names nothing. Stopped at step k + 1, it names what that step names on the tables and the state that are left.
+abbrev pub RunNames : Type 0
+RunNames =
+    (t : Tables) (s : State) (bytes : List ℕ) (r : Refusal)
+    → let ran = runOf t s bytes in
+    (ran .answer ≡ bad 0 r → r .values ≡ []) × ((k : ℕ) → ran .answer ≡ bad (suc k) r → Named (modelIn (ran .tables) (ran .state)) (drop (recordSize * k) bytes) r)
 
 -- ---- "after 10 to 14 and a formula's 11 the fixed entries and the state are 0"
 
@@ -127,7 +142,7 @@ JudgeShort = (line out : List ℕ) → length out < outputSize → (written line
 
 abbrev pub RunBytesShort : Type 0
 RunBytesShort =
-    (b : Buffers) (records : List ℕ) → whole b ≡ false → runBytes b records ≡ record { buffers = b; result = runResult (Run.Bad (record { 0 = 0 }) 1) }
+    (b : Buffers) (records : List ℕ) → whole b ≡ false → runBytes b records ≡ record { buffers = b; result = runResult (bad 0 (refusal 1)) }
 
 -- `over front buffer` is `front`, and behind it what stood there
 abbrev pub LoadBytesShort : Type 0
@@ -141,19 +156,19 @@ LoadBytesShort =
 
 -- the result tells a refusal at step 0 or 1
 abbrev pub RunBytesSame : Buffers → After → Type 0
-RunBytesSame b x = (step number : ℕ) → step ≤ 1 → fields (x .result) ≡ runFields (Run.Bad (record { 0 = step }) number) → x .buffers ≡ b
+RunBytesSame b x = (step number variable : ℕ) → step ≤ 1 → fields (x .result) ≡ 3 ∷ step ∷ number ∷ variable ∷ [] → x .buffers ≡ b
 
 -- what the contract of `kefthrun_run` says of a call on these buffers and records, with x behind it
 abbrev pub RunPromised : Buffers → List ℕ → After → Type 0
 RunPromised b records x = (x ≡ runBytes b records) × RunBytesSame b x
 
--- The result tells a refusal at step k + 1: on the tables and the state in the bytes that are left, that step is refused with that number.
+-- The result tells a refusal at step k + 1: on the tables and the state in the bytes that are left, that step is refused with that number and that variable.
 abbrev pub RunBytesStopped : Type 0
 RunBytesStopped =
-    (b : Buffers) (records : List ℕ) (k number : ℕ) → fields (runBytes b records .result) ≡ runFields (Run.Bad (record { 0 = suc k }) number)
+    (b : Buffers) (records : List ℕ) (k number variable : ℕ) → fields (runBytes b records .result) ≡ 3 ∷ suc k ∷ number ∷ variable ∷ []
     → let left = runBytes b records .buffers in
     (runBytes b (take (recordSize * k) records) ≡ record { buffers = left; result = runResult (verdictIn (stateIn left)) })
-    × (stepOf (tablesIn left) (stateIn left) (drop (recordSize * k) records) .answer ≡ Step.Refused number)
+    × (stepOf (tablesIn left) (stateIn left) (drop (recordSize * k) records) .answer ≡ some (refusalIn number variable))
 
 -- the bytes of 8,192, 2,048, 512 and 512 entries and of eight counts are 0
 unfoldable pub zeroedBytes : Buffers → Buffers

@@ -1,8 +1,8 @@
 -- Results: their fields, that of a shown clause, and that of a written text.
---     case-is, first-is, second-is      the case, and values of 16 bits
---     first-cut, second-cut             any values
---     length-told, two-fields           the length of a written text from its halves, and from the two values
---     stretch-shown                     a shown clause from its place and its length
+--     case-is, first-is, second-is, third-is      the case, and values of 16 bits
+--     first-cut, second-cut, third-cut            any values
+--     length-told, two-fields                     the length of a written text from its halves, and from the two values
+--     stretch-shown                               a shown clause from its place and its length
 use mathlib.Core.Path.{_≡_, refl}
 use mathlib.Core.Bool.{Bool, true, false, cond}
 use mathlib.Core.List.{[]}
@@ -20,41 +20,58 @@ use Rattle.formula_text.specs.Writing.{textLength}
 use Rattle.questions.specs.Answers.{lengthAnswer, shownStart, shownClause}
 use Rattle.results.specs.Results.{packed, field, showResult, stretchResult, writeResult}
 
-pub case-is : (k a b : ℕ) → k < 65536 → field 0 (packed k a b) ≡ k
-unfolding field packed
-case-is k a b h = omega arith
+-- a field of three numbers of 16 bits behind the case
+module _ (k x y z : ℕ) (h : k < 65536) (p : x < 65536) (q : y < 65536) (r : z < 65536) where
+  abbrev all : ℕ
+  all = k + 65536 * x + 4294967296 * y + 281474976710656 * z
 
-pub first-is : (k a b : ℕ) → k < 65536 → a < 65536 → field 1 (packed k a b) ≡ a
-unfolding field packed
-first-is k a b h i = omega arith
+  case-of : all % 65536 ≡ k
+  case-of = omega arith
 
-pub second-is : (k a b : ℕ) → k < 65536 → b < 65536 → field 2 (packed k a b) ≡ b
-unfolding field packed
-second-is k a b h i = omega arith
+  first-of : all / 65536 % 65536 ≡ x
+  first-of = omega arith
+
+  second-of : all / 65536 / 65536 % 65536 ≡ y
+  second-of = omega arith
+
+  third-of : all / 65536 / 65536 / 65536 % 65536 ≡ z
+  third-of = omega arith
 
 -- a value of more than 16 bits is cut
-pub first-cut : (k a b : ℕ) → k < 65536 → field 1 (packed k a b) ≡ a % 65536
-unfolding field packed
-first-cut k a b h = go (a % 65536) (b % 65536) (omega arith) (omega arith)
-  where
-    go : (x y : ℕ) → x < 65536 → y < 65536 → (k + 65536 * x + 4294967296 * y) / 65536 % 65536 ≡ x
-    go x y i j = omega arith
+module _ (k a b c : ℕ) (h : k < 65536) where
+  pub case-is : field 0 (packed k a b c) ≡ k
+  unfolding field packed
+  case-is = case-of k (a % 65536) (b % 65536) (c % 65536) h (omega arith) (omega arith) (omega arith)
 
-pub second-cut : (k a b : ℕ) → k < 65536 → field 2 (packed k a b) ≡ b % 65536
-unfolding field packed
-second-cut k a b h = go (a % 65536) (b % 65536) (omega arith) (omega arith)
-  where
-    go : (x y : ℕ) → x < 65536 → y < 65536 → (k + 65536 * x + 4294967296 * y) / 65536 / 65536 % 65536 ≡ y
-    go x y i j = omega arith
+  pub first-cut : field 1 (packed k a b c) ≡ a % 65536
+  unfolding field packed
+  first-cut = first-of k (a % 65536) (b % 65536) (c % 65536) h (omega arith) (omega arith) (omega arith)
+
+  pub second-cut : field 2 (packed k a b c) ≡ b % 65536
+  unfolding field packed
+  second-cut = second-of k (a % 65536) (b % 65536) (c % 65536) h (omega arith) (omega arith) (omega arith)
+
+  pub third-cut : field 3 (packed k a b c) ≡ c % 65536
+  unfolding field packed
+  third-cut = third-of k (a % 65536) (b % 65536) (c % 65536) h (omega arith) (omega arith) (omega arith)
+
+  pub first-is : a < 65536 → field 1 (packed k a b c) ≡ a
+  first-is i = omega (arith, first-cut)
+
+  pub second-is : b < 65536 → field 2 (packed k a b c) ≡ b
+  second-is i = omega (arith, second-cut)
+
+  pub third-is : c < 65536 → field 3 (packed k a b c) ≡ c
+  third-is i = omega (arith, third-cut)
 
 -- the length of a text, packed from its halves
-pub length-told : (n : ℕ) {r : ℕ} → r ≡ packed 1 (n % 65536) (n / 65536 % 65536) → r ≡ writeResult (textLength n)
+pub length-told : (n : ℕ) {r : ℕ} → r ≡ packed 1 (n % 65536) (n / 65536 % 65536) 0 → r ≡ writeResult (textLength n)
 unfolding writeResult packed
 length-told n told = omega arith
 
 -- both values of a length below 2^32 make the length again
-halves : (n : ℕ) → n < 4294967296 → field 1 (packed 1 n (n / 65536)) + 65536 * field 2 (packed 1 n (n / 65536)) ≡ n
-halves n h = rw (first-cut 1 n (n / 65536) (omega arith), second-cut 1 n (n / 65536) (omega arith)) (omega arith)
+halves : (n : ℕ) → n < 4294967296 → field 1 (packed 1 n (n / 65536) 0) + 65536 * field 2 (packed 1 n (n / 65536) 0) ≡ n
+halves n h = rw (first-cut 1 n (n / 65536) 0 (omega arith), second-cut 1 n (n / 65536) 0 (omega arith)) (omega arith)
 
 pub two-fields : (n : ℕ) → n < 4294967296 → field 1 (writeResult (textLength n)) + 65536 * field 2 (writeResult (textLength n)) ≡ n
 unfolding writeResult

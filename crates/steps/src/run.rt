@@ -4,6 +4,7 @@ use crate::RunAnswer;
 use crate::StepAnswer;
 use additions::refusal;
 use dqbf::limits::RECORDS_LIMIT;
+use dqbf::refusal::Refusal;
 use records::Decoded;
 use records::RECORD_SIZE;
 use rules::examine;
@@ -16,23 +17,32 @@ ghost use lib.ListN.{length};
 ghost use Rattle.dqbf.specs.Limits as Limits;
 ghost use Rattle.dqbf.specs.Run as Run;
 ghost use Rattle.tables.specs.Tables.{tablesOf, modelIn};
-ghost use Rattle.steps.specs.Steps.{AfterRun, ranOn, runOf};
+ghost use Rattle.steps.specs.Steps.{runTold, AfterRun, ranOn, runOf};
 ghost use Rattle.additions.specs.Adding.{Holding};
+ghost use Rattle.dqbf.specs.declared.refusal.Refusal.the-variants.{Plain};
 ghost use Rattle.steps.specs.declared.RunAnswer.the-variants.{Bad};
 ghost use Rattle.steps.specs.Runs.{recordsIn, verdictIn};
 
-// Stopped at a step (0: the whole list).
-fn stopped(state: State, step: u32, number: u32) -> Ran
-    ensures { λ r. ⌜ r ≡ record { state = state; answer = Bad (record { 0 = step }) number } ⌝ }
+// Stopped at a step (0: the whole list) by its refusal.
+fn stopped_by(state: State, step: u32, why: Refusal) -> Ran
+    ensures { λ r. ⌜ r ≡ record { state = state; answer = Bad (record { 0 = step }) why } ⌝ }
 {
     let step_number = StepNumber(step);
-    let answer = RunAnswer::Bad(step_number, number);
+    let answer = RunAnswer::Bad(step_number, why);
     Ran { state, answer }
+}
+
+// The same with a number alone.
+fn stopped(state: State, step: u32, number: u16) -> Ran
+    ensures { λ r. ⌜ r ≡ record { state = state; answer = Bad (record { 0 = step }) (Plain number) } ⌝ }
+{
+    let why = Refusal::Plain(number);
+    stopped_by(state, step, why)
 }
 
 // Refuted if there is an empty clause, else open.
 fn verdict(state: State) -> Ran
-    ensures { λ r. ⌜ r ≡ record { state = state; answer = verdictIn state } ⌝ }
+    ensures { λ r. ⌜ (r .state ≡ state) × (runTold (r .answer) ≡ verdictIn state) ⌝ }
 {
     let steps = state.steps;
     let empty = state.empty;
@@ -70,7 +80,7 @@ fn run_records(
         (record {
           tables = tablesOf (now (literals .exit)) (now (ends .exit)) (now (sets .exit)) (now (kinds .exit));
           state = r .state;
-          answer = r .answer;
+          answer = runTold (r .answer);
         })
         (ranOn (tablesOf (now (literals .entry)) (now (ends .entry)) (now (sets .entry)) (now (kinds .entry)))
         (Run.runFrom Limits.tables (recordsIn (now (bytes .entry))) 0
@@ -88,8 +98,8 @@ fn run_records(
         let stepped = examine::examine(step, literals, ends, sets, kinds, current);
         let next = stepped.state;
         let answer = stepped.answer;
-        if let StepAnswer::Refused(number) = answer {
-            return stopped(next, count + 1, number);
+        if let StepAnswer::Refused(why) = answer {
+            return stopped_by(next, count + 1, why);
         }
         current = next;
         count += 1;
@@ -112,7 +122,7 @@ pub fn run(
         (record {
           tables = tablesOf (now (literals .exit)) (now (ends .exit)) (now (sets .exit)) (now (kinds .exit));
           state = r .state;
-          answer = r .answer;
+          answer = runTold (r .answer);
         })
         (runOf (tablesOf (now (literals .entry)) (now (ends .entry)) (now (sets .entry)) (now (kinds .entry))) state (now (bytes .entry))) ⌝ }
 {

@@ -1,17 +1,27 @@
 // The steps of a list, one public call each.
+use api::Refusal;
 use api::State;
 use api::StepAnswer;
+use libc::STDOUT_FILENO;
 
-// 0 for an accepted step, else its number of refusal.
-fn number_of(answer: StepAnswer) -> u32 {
-    match answer {
-        StepAnswer::Accepted => 0,
-        StepAnswer::Refused(number) => number,
+// The number of a refusal, and behind a colon the variable that it names.
+fn print_refusal(why: Refusal) {
+    match why {
+        Refusal::Plain(number) => printed::number(number as u32),
+        Refusal::Naming(number, variable) => {
+            printed::number(number as u32);
+            io::write_all(STDOUT_FILENO, b":");
+            io::print_decimal(STDOUT_FILENO, variable as u64);
+        }
     }
 }
 
+// 0 for an accepted step, else its refusal.
 pub fn print_answer(answer: StepAnswer) {
-    printed::number(number_of(answer));
+    match answer {
+        StepAnswer::Accepted => printed::number(0),
+        StepAnswer::Refused(why) => print_refusal(why),
+    }
 }
 
 // One call for each record, for a cut last one, and for the empty rest behind a whole one. Each is lent all that is left of the list, of which it must read only the front;

@@ -5,18 +5,20 @@ use lines::line::Verdict;
 use lines::line::Written;
 use steps::RunAnswer;
 ghost use mathlib.Core.Path.{_≡_};
+ghost use Rattle.dqbf.specs.Line.{verdictLine};
 ghost use Rattle.tables.specs.Tables.{tablesOf};
+ghost use Rattle.steps.specs.Steps.{runTold};
 ghost use Rattle.lines.specs.Lines.{lineOf, written, withLine};
-ghost use Rattle.verdict.specs.Judging.{toldBy, judgedLine, judgedTables};
+ghost use Rattle.verdict.specs.Judging.{judgedLine, judgedTables};
 
 // The line's case for an answer of a run.
 fn told_by(answer: RunAnswer) -> Verdict
-    ensures { λ r. ⌜ r ≡ toldBy answer ⌝ }
+    ensures { λ r. ⌜ lineOf r ≡ verdictLine (runTold answer) ⌝ }
 {
     match answer {
         RunAnswer::Refuted(steps, clause) => Verdict::Refuted(steps.0, clause.0),
         RunAnswer::Open(steps) => Verdict::Open(steps.0),
-        RunAnswer::Bad(step, number) => Verdict::Bad(step.0, number),
+        RunAnswer::Bad(step, why) => Verdict::Bad(step.0, why),
     }
 }
 

@@ -105,7 +105,11 @@ pub fn random_formula(random: &mut Random, size: Size) -> Draft {
 
 /// One to many `a` lines, and a line for every one or few existentials; an `e`
 /// line stands anywhere among the `a` lines.
-fn random_prefix(random: &mut Random, universals: &[u32], existentials: &[u32]) -> Vec<Prefix> {
+pub(crate) fn random_prefix(
+    random: &mut Random,
+    universals: &[u32],
+    existentials: &[u32],
+) -> Vec<Prefix> {
     let mut prefix = universal_lines(random, universals);
     let percent = random.pick(&[25, 50, 50, 75]);
     let on_e_lines = random.pick(&[20, 20, 60]);
@@ -211,7 +215,7 @@ fn first_place(prefix: &[Prefix], set: &[u32]) -> usize {
 }
 
 /// A clause of different variables.
-fn random_clause(
+pub(crate) fn random_clause(
     random: &mut Random,
     universals: &[u32],
     existentials: &[u32],

@@ -99,7 +99,8 @@ fn change_steps(lent: &mut Lent, random: &mut Random) {
     counts.steps = most - formula;
 }
 
-/// Some permitted steps, then one that may be refused.
+/// Some permitted steps, then one that may be refused, or a resolution with more
+/// than one complementary pair.
 fn records_for(lent: &Lent, tries: usize, random: &mut Random) -> Vec<u8> {
     let state = checker::wellformed::rebuild(&lent.tables, &lent.counts);
     let Ok(state) = state else {
@@ -108,8 +109,10 @@ fn records_for(lent: &Lent, tries: usize, random: &mut Random) -> Vec<u8> {
     let mut prover = Prover::new(state, random);
     prover.wander(tries + 20);
     let mut steps = prover.steps.clone();
-    if prover.random.chance(40) {
-        steps.push(prover.random_step());
+    match prover.random.below(100) {
+        0..=39 => steps.push(prover.random_step()),
+        40..=69 => steps.extend(prover.clash()),
+        _ => (),
     }
     records_of(&steps)
 }

@@ -4,6 +4,7 @@
 #![forbid(unsafe_code)]
 
 pub mod case;
+pub mod clashing;
 pub mod container;
 pub mod damage;
 pub mod draft;

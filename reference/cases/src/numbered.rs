@@ -1,5 +1,6 @@
 //! Numbers for the program `lines_test`, which prints of each how many digits it
-//! has and, with the number behind it, the line of every verdict.
+//! has and, with the number behind it, the line of every verdict. The number of a
+//! refused step, and the variable that it names, have 16 bits.
 
 use std::fmt::Write;
 
@@ -42,7 +43,9 @@ pub fn printed() -> String {
         writeln!(printed, "{length}").expect("a string");
         writeln!(printed, "refuted {first} {second}").expect("a string");
         writeln!(printed, "open {first}").expect("a string");
-        writeln!(printed, "bad {first} {second}").expect("a string");
+        let (number, variable) = (second % 65536, first % 65536);
+        writeln!(printed, "bad {first} {number}").expect("a string");
+        writeln!(printed, "bad {first} {number} {variable}").expect("a string");
         writeln!(printed, "formula {first} {second}").expect("a string");
     }
     printed

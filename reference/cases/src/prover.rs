@@ -43,7 +43,7 @@ impl<'a> Prover<'a> {
     }
 
     /// Applies a step if the rules permit it.
-    fn apply(&mut self, step: Step) -> bool {
+    pub fn apply(&mut self, step: Step) -> bool {
         let accepted = self.state.step(&encode(step)).is_ok();
         if accepted {
             self.steps.push(step);
@@ -64,7 +64,8 @@ impl<'a> Prover<'a> {
         self.apply(step)
     }
 
-    fn numbers(&self, clause: u32) -> Vec<i32> {
+    /// The literals of a clause that is there.
+    pub fn numbers(&self, clause: u32) -> Vec<i32> {
         let clause = self.state.clause(clause).expect("a clause that is there");
         clause
             .iter()
@@ -234,6 +235,40 @@ impl<'a> Prover<'a> {
         resolution(first, second, pivot)
     }
 
+    /// A resolution of two clauses that have more than one complementary pair.
+    pub fn clash_of(&mut self, first: u32, second: u32) -> Option<Clash> {
+        let others = self.numbers(second);
+        let mut pivots = self.numbers(first);
+        pivots.retain(|pivot| others.contains(&-pivot));
+        if pivots.len() < 2 {
+            return None;
+        }
+        let pivot = pivots.remove(self.random.below(pivots.len()));
+        Some(Clash {
+            step: resolution(first, second, pivot),
+            lowest: pivots[0].unsigned_abs(),
+            count: pivots.len(),
+        })
+    }
+
+    /// Such a resolution of random clauses: the first found, the one with the most
+    /// pairs, or one with pairs of high variables, as forks have them.
+    pub fn clash(&mut self) -> Option<Step> {
+        let mut found = Vec::new();
+        for _ in 0..60 {
+            let (first, second) = (self.random_clause(), self.random_clause());
+            if first != 0 {
+                found.extend(self.clash_of(first, second));
+            }
+        }
+        let chosen = match self.random.below(3) {
+            0 => found.first(),
+            1 => found.iter().max_by_key(|clash| clash.count),
+            _ => found.iter().max_by_key(|clash| clash.lowest),
+        };
+        chosen.map(|clash| clash.step)
+    }
+
     /// A fork into random parts; few literals are in both.
     fn random_fork(&mut self, clause: u32, numbers: &[i32]) -> Step {
         let sides: Vec<usize> = numbers.iter().map(|_| self.random.below(9)).collect();
@@ -243,6 +278,15 @@ impl<'a> Prover<'a> {
             right: mask(sides.iter().map(|&side| side >= 4)),
         }
     }
+}
+
+/// A resolution whose resolvent has complementary literals.
+pub struct Clash {
+    pub step: Step,
+    /// The lowest variable that it holds in both signs.
+    pub lowest: u32,
+    /// How many there are.
+    pub count: usize,
 }
 
 pub fn resolution(first: u32, second: u32, pivot: i32) -> Step {

@@ -5,6 +5,7 @@ use checker::records::record;
 use checker::state::State;
 
 use crate::case::Case;
+use crate::clashing;
 use crate::damage::{damaged_records, damaged_text};
 use crate::draft::Draft;
 use crate::formulas::{self, disguised_family, random_formula};
@@ -19,8 +20,9 @@ pub fn case(seed: u64, index: u64) -> Case {
         18..=25 => refutation_and_more(random),
         26..=35 => saturated(random),
         36..=47 => wandering(random),
-        48..=65 => with_damaged_text(random),
-        66..=89 => with_damaged_records(random),
+        48..=60 => with_damaged_text(random),
+        61..=65 | 85..=89 => clashing::case(random),
+        66..=84 => with_damaged_records(random),
         90..=94 => with_wild_records(random),
         95..=97 => crowded(random),
         _ => with_wild_text(random),
@@ -51,7 +53,7 @@ fn formula(random: &mut Random) -> Draft {
     }
 }
 
-fn text_of(draft: &Draft, random: &mut Random) -> Vec<u8> {
+pub(crate) fn text_of(draft: &Draft, random: &mut Random) -> Vec<u8> {
     if random.chance(50) {
         draft.loose(random)
     } else {
@@ -59,7 +61,7 @@ fn text_of(draft: &Draft, random: &mut Random) -> Vec<u8> {
     }
 }
 
-fn loaded(text: &[u8]) -> State {
+pub(crate) fn loaded(text: &[u8]) -> State {
     State::load(text).expect("drafts are within the limits")
 }
 

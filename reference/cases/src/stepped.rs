@@ -4,6 +4,7 @@
 use checker::calls::Lent;
 use checker::limits::RECORD;
 use checker::records::record;
+use checker::refusal::Number;
 use checker::state::State;
 
 use crate::case::Case;
@@ -11,7 +12,7 @@ use crate::damage::damaged_records;
 use crate::formulas::{self, random_formula};
 use crate::prover::{records_of, Prover};
 use crate::random::Random;
-use crate::{fixed, published, seeded};
+use crate::{clashing, fixed, published, seeded};
 
 const SEED: u64 = 16;
 /// Fixed cases on a text of so many bytes are taken as one list.
@@ -39,7 +40,8 @@ pub fn cases() -> Vec<Case> {
     let mut seeded: Vec<Case> = (0..400).map(|index| seeded::case(SEED, index)).collect();
     seeded.retain(|case| size(case) < MOST_SEEDED);
     let mixed = (0..200).map(|index| mixed(SEED, index)).collect();
-    [short, joined(long), theorem, seeded, mixed].concat()
+    let clashes = (0..80).map(|index| clashes(SEED, index)).collect();
+    [short, joined(long), theorem, seeded, mixed, clashes].concat()
 }
 
 fn size(case: &Case) -> usize {
@@ -80,21 +82,49 @@ fn mixed(seed: u64, index: u64) -> Case {
     let size = random.pick(&[formulas::TINY, formulas::SMALL, formulas::FORKED]);
     let text = random_formula(random, size).plain();
     let start = State::load(&text).expect("drafts are within the limits");
-    let mut prover = Prover::new(start, random);
+    let mut records = interleaved(&mut Prover::new(start, random), other_record);
+    if random.chance(40) {
+        records.truncate(records.len() - random.below(RECORD));
+    }
+    Case::checked("seeded/mixed", text, records)
+}
+
+/// Permitted steps with resolutions between them that have more than one
+/// complementary pair, sometimes of fork variables.
+fn clashes(seed: u64, index: u64) -> Case {
+    let random = &mut Random::for_case(seed ^ 5, index);
+    let (forked, draft) = match random.below(5) {
+        0 => (false, random_formula(random, formulas::FORKED)),
+        1 => (true, clashing::opposites(random)),
+        _ => (false, clashing::formula(random)),
+    };
+    let text = draft.plain();
+    let start = State::load(&text).expect("drafts are within the limits");
+    let prover = &mut Prover::new(start, random);
+    let clauses = if forked {
+        clashing::part(prover)
+    } else {
+        (1, 2)
+    };
+    let before = records_of(&prover.steps);
+    let clash = |prover: &mut Prover| records_of(clashing::step(prover, clauses).as_slice());
+    let records = [before, interleaved(prover, clash)].concat();
+    Case::checked("seeded/clashes", text, records)
+}
+
+/// Permitted steps with other records between them.
+fn interleaved(prover: &mut Prover, other: impl Fn(&mut Prover) -> Vec<u8>) -> Vec<u8> {
     let mut records = Vec::new();
     for _ in 0..prover.random.between(2, 8) {
         let before = prover.steps.len();
         prover.wander(3);
         records.extend(records_of(&prover.steps[before..]));
-        let other = other_record(&mut prover);
+        let other = other(prover);
         // It may be permitted by chance.
         let _ = prover.state.step(&other);
         records.extend(other);
     }
-    if random.chance(40) {
-        records.truncate(records.len() - random.below(RECORD));
-    }
-    Case::checked("seeded/mixed", text, records)
+    records
 }
 
 /// A record that may be refused.
@@ -130,8 +160,8 @@ fn first_tests() -> String {
     let malformed = short.into_iter().chain([wrong, zero.clone()]);
     let calls = malformed.map(|lent| (lent, 0)).chain([(zero, 1)]);
     let answer = |(mut lent, kind)| answers(&mut lent, &record(kind, [0; 3]))[0];
-    let steps: Vec<u16> = calls.map(answer).collect();
-    format!("first tests\nsteps{}\n", listed(&steps))
+    let steps: Vec<Answer> = calls.map(answer).collect();
+    format!("first tests\nsteps{}\n", answered(&steps))
 }
 
 fn told(lent: &mut Lent, case: &Case) -> String {
@@ -140,7 +170,7 @@ fn told(lent: &mut Lent, case: &Case) -> String {
         let number = refusal.number.value();
         return format!("{label}\nformula {} {number}\n", refusal.line);
     }
-    let steps = listed(&answers(lent, &case.records));
+    let steps = answered(&answers(lent, &case.records));
     let counts = listed(&lent.counts.array());
     let last = u32::from(lent.counts.clauses) + 1;
     let shown: String = (0..=last).map(|number| shown(lent, number)).collect();
@@ -153,15 +183,28 @@ fn listed<T: ToString>(numbers: &[T]) -> String {
         .collect()
 }
 
-/// For each record, a cut last one and the empty rest behind a whole one: 0 or
-/// the number of refusal. Each step has all that is left of the list.
-pub fn answers(lent: &mut Lent, records: &[u8]) -> Vec<u16> {
-    let answer = |at: usize| match lent.step(&records[at..]) {
-        Ok(()) => 0,
-        Err((_, number)) => number.value(),
-    };
+/// Why a step is refused; nothing for an accepted one.
+pub type Answer = Option<Number>;
+
+/// The answers to each record, to a cut last one and to the empty rest behind a
+/// whole one. Each step has all that is left of the list.
+pub fn answers(lent: &mut Lent, records: &[u8]) -> Vec<Answer> {
     let places = (0..=records.len()).step_by(RECORD);
-    places.map(answer).collect()
+    let refusal = |at: usize| lent.step(&records[at..]).err();
+    places.map(refusal).map(|r| r.map(|(_, n)| n)).collect()
+}
+
+/// 0 for each accepted step, else its number, with a colon and the variable behind
+/// 23.
+fn answered(answers: &[Answer]) -> String {
+    let told = |answer: &Answer| match answer {
+        None => "0".into(),
+        Some(number) => match number.variable() {
+            None => number.value().to_string(),
+            Some(variable) => format!("{}:{variable}", number.value()),
+        },
+    };
+    listed(&answers.iter().map(told).collect::<Vec<String>>())
 }
 
 /// A stroke and the literals that are shown of a clause.

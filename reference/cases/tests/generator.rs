@@ -9,6 +9,7 @@ use cases::container::{lines, pack, unpack};
 use cases::{fixed, generate, numbered, seeded, stepped, tidied};
 use checker::calls::Lent;
 use checker::limits::{RECORD, TIDY_BYTES};
+use checker::refusal::Number;
 
 /// Five thousand cases, made once for all tests.
 fn many() -> &'static [Case] {
@@ -40,8 +41,8 @@ const SEED_1: [&str; 12] = [
     "open 2",
     "formula 8 10",
     "bad 1 20",
-    "formula 4 10",
-    "bad 170 22",
+    "bad 3 23 244",
+    "open 20",
     "bad 5 20",
     "refuted 1 26",
     "bad 68 20",
@@ -235,17 +236,19 @@ fn tidy_texts_are_of_many_kinds() {
 fn steps_go_on_behind_refused_ones() {
     let lent = &mut Lent::zero();
     let mut found: BTreeMap<u16, usize> = BTreeMap::new();
+    let mut variables = BTreeSet::new();
     let (mut behind, mut forks, mut emptied, mut cut) = (0, 0, 0, 0);
     for case in stepped::cases() {
         if lent.load(&case.text).is_err() {
             continue;
         }
         let answers = stepped::answers(lent, &case.records);
-        let refused = answers.iter().position(|&number| number != 0);
+        let refused = answers.iter().position(Option::is_some);
         let later = &answers[refused.expect("the rest is empty at last")..];
-        behind += later.iter().filter(|&&number| number == 0).count();
-        for number in answers {
-            *found.entry(number).or_default() += 1;
+        behind += later.iter().filter(|answer| answer.is_none()).count();
+        for answer in answers {
+            *found.entry(answer.map_or(0, Number::value)).or_default() += 1;
+            variables.extend(answer.and_then(Number::variable));
         }
         let counts = lent.counts;
         forks += counts.variables - counts.header_variables;
@@ -257,4 +260,9 @@ fn steps_go_on_behind_refused_ones() {
     assert!(found.values().all(|&count| count >= 15), "{found:?}");
     assert!(behind > 500 && forks > 1_000, "{behind} {forks}");
     assert!(emptied > 100 && cut > 50, "{emptied} {cut}");
+    // Document 02, Note 4.
+    assert!(variables.len() > 60, "{variables:?}");
+    assert!([1, 2, 255, 256, 511, 512]
+        .iter()
+        .all(|v| variables.contains(v)));
 }

@@ -1,13 +1,17 @@
 //! 002, section 4: a step is accepted if and only if its rule permits it, and
 //! adds just what the rule derives. The rules are put here once more, by
 //! membership of single literals and universals, and tried on every step of
-//! many small states.
+//! many small states; with them the variable of 23 (document 02, Note 4).
 
+use cases::clashing;
 use cases::formulas::{self, random_formula};
 use cases::prover::Prover;
 use cases::random::Random;
 use checker::clause::numbers_of;
+use checker::limits::WIDTH;
 use checker::records::{encode, Step};
+use checker::refusal::Number;
+use checker::rules;
 use checker::state::{Kind, State};
 
 /// What a rule derives: the clauses as lists of numbers, and the universals of
@@ -59,6 +63,19 @@ impl Rules<'_> {
         let tautology = self.literals.iter().any(|&l| stands(l) && stands(-l));
         let permitted = c1.contains(&pivot) && c2.contains(&-pivot) && !tautology;
         permitted.then(|| (vec![self.such(stands)], None))
+    }
+
+    /// Of a resolution on complementary literals: how many literals the resolvent
+    /// has, and the variables whose two literals are both there, ascending.
+    fn joined(&self, first: u32, second: u32, pivot: i64) -> Option<(usize, Vec<i64>)> {
+        let (c1, c2) = (self.clause(first)?, self.clause(second)?);
+        if !c1.contains(&pivot) || !c2.contains(&-pivot) {
+            return None;
+        }
+        let stands = |l: i64| c1.contains(&l) && l != pivot || c2.contains(&l) && l != -pivot;
+        let variables = 1..=i64::from(self.state.next_variable());
+        let both = variables.filter(|&v| stands(v) && stands(-v)).collect();
+        Some((self.such(stands).len(), both))
     }
 
     fn reduct(&self, clause: u32, literal: i64) -> Option<Derived> {
@@ -201,4 +218,78 @@ fn accepted_if_and_only_if_the_rule_permits_it() {
     }
     assert!(accepted.iter().all(|&count| count > 150), "{accepted:?}");
     assert!(refused > 50_000, "{refused}");
+}
+
+/// How the resolutions on complementary literals came out.
+#[derive(Debug, Default)]
+struct Tally {
+    accepted: usize,
+    wide: usize,
+    /// Too wide, and with a variable in both signs.
+    wide_with_pair: usize,
+    /// With one variable in both signs, and with more than one.
+    one: usize,
+    more: usize,
+    /// The variable that is told is a fork variable.
+    forks: usize,
+}
+
+/// States with clauses of all widths and with fork variables.
+fn joined_state(index: u64) -> State {
+    let random = &mut Random::for_case(22, index);
+    let draft = match index % 6 {
+        0 => random_formula(random, formulas::WIDE),
+        1 => random_formula(random, formulas::MEDIUM),
+        2 | 3 => random_formula(random, formulas::FORKED),
+        _ => clashing::formula(random),
+    };
+    let mut prover = Prover::new(State::load(&draft.plain()).unwrap(), random);
+    prover.wander(30);
+    prover.state
+}
+
+/// One resolution: 24 above 32 literals, else 23 with the lowest variable in both
+/// signs if there is one, else accepted.
+fn assert_joined(rules: &Rules, first: u32, second: u32, pivot: i64, tally: &mut Tally) {
+    let Some((literals, both)) = rules.joined(first, second, pivot) else {
+        return;
+    };
+    let found = rules::resolution(rules.state, first, second, pivot as i32).err();
+    if literals > WIDTH {
+        assert_eq!(found, Some(Number::TooWide));
+        tally.wide += 1;
+        tally.wide_with_pair += usize::from(!both.is_empty());
+        return;
+    }
+    let lowest = both.first().map(|&variable| variable as u32);
+    assert_eq!(found, lowest.map(Number::Tautology));
+    match both.len() {
+        0 => tally.accepted += 1,
+        1 => tally.one += 1,
+        _ => tally.more += 1,
+    }
+    let declared = u32::from(rules.state.counts().header_variables);
+    tally.forks += usize::from(lowest.is_some_and(|variable| variable > declared));
+}
+
+#[test]
+fn the_lowest_variable_in_both_signs_is_told() {
+    let mut tally = Tally::default();
+    for index in 0..240 {
+        let state = joined_state(index);
+        let rules = Rules::new(&state);
+        let numbers = 1..=rules.clauses.len() as u32;
+        for (first, clause) in numbers.clone().zip(&rules.clauses) {
+            for second in numbers.clone() {
+                for &pivot in clause {
+                    assert_joined(&rules, first, second, pivot, &mut tally);
+                }
+            }
+        }
+    }
+    assert!(tally.accepted > 10_000, "{tally:?}");
+    assert!(tally.one > 3_000 && tally.more > 3_000, "{tally:?}");
+    assert!(tally.wide > tally.wide_with_pair + 100, "{tally:?}");
+    assert!(tally.wide_with_pair > 3_000, "{tally:?}");
+    assert!(tally.forks > 40, "{tally:?}");
 }

@@ -70,11 +70,16 @@ pub fn numbers_of(clause: &Clause) -> Vec<i64> {
     clause.iter().map(|literal| literal.number()).collect()
 }
 
+/// The lowest variable that stands in the clause in both signs.
+pub fn lowest_in_both_signs(clause: &Clause) -> Option<u32> {
+    let paired = |literal: &&Literal| clause.contains(&literal.complement());
+    let variables = clause.iter().filter(paired).map(|l| l.variable());
+    variables.min()
+}
+
 /// Whether some literal stands in the clause together with its complement.
 pub fn has_complementary(clause: &Clause) -> bool {
-    clause
-        .iter()
-        .any(|literal| clause.contains(&literal.complement()))
+    lowest_in_both_signs(clause).is_some()
 }
 
 /// The clause without one literal.

@@ -1,9 +1,9 @@
-//! Document 01, "Step records" and "Numbers of refusal": the three rules, each
-//! with its tests in the stated order.
+//! Document 01, "Step records" and "Numbers of refusal", and document 02, Note 4:
+//! the three rules, each with its tests in the stated order.
 
 use std::collections::BTreeSet;
 
-use crate::clause::{find, has_complementary, without, Clause, Literal};
+use crate::clause::{find, lowest_in_both_signs, without, Clause, Literal};
 use crate::limits;
 use crate::records::Step;
 use crate::refusal::Number;
@@ -35,7 +35,7 @@ pub fn examine(state: &State, step: Step) -> Result<Addition, Number> {
     }
 }
 
-/// Resolution: 21, 22, 24, 23, 25.
+/// Resolution: 21, 22, 24, 23 with its variable, 25.
 pub fn resolution(state: &State, first: u32, second: u32, pivot: i32) -> Result<Addition, Number> {
     let first = state.clause(first)?;
     let second = state.clause(second)?;
@@ -47,8 +47,8 @@ pub fn resolution(state: &State, first: u32, second: u32, pivot: i32) -> Result<
     if resolvent.len() > limits::WIDTH {
         return Err(Number::TooWide);
     }
-    if has_complementary(&resolvent) {
-        return Err(Number::Tautology);
+    if let Some(variable) = lowest_in_both_signs(&resolvent) {
+        return Err(Number::Tautology(variable));
     }
     within_room(state, vec![resolvent], None)
 }

@@ -1,4 +1,4 @@
-//! Document 01, "The line printed".
+//! Document 01, "The line printed", and document 02, Note 4.
 
 use std::fmt;
 
@@ -12,7 +12,7 @@ pub enum Verdict {
     Refuted { steps: usize, clause: usize },
     /// Accepted steps.
     Open { steps: usize },
-    /// The refused step within its list, 0 for the whole list.
+    /// The refused step within its list, 0 for the whole list, and why.
     Bad { step: usize, number: Number },
     /// The refused line, 0 for the whole text.
     Formula(FormulaRefusal),
@@ -29,9 +29,9 @@ impl fmt::Display for Verdict {
         match self {
             Verdict::Refuted { steps, clause } => write!(line, "refuted {steps} {clause}"),
             Verdict::Open { steps } => write!(line, "open {steps}"),
-            Verdict::Bad { step, number } => write!(line, "bad {step} {}", number.value()),
+            Verdict::Bad { step, number } => write!(line, "bad {step} {number}"),
             Verdict::Formula(refusal) => {
-                write!(line, "formula {} {}", refusal.line, refusal.number.value())
+                write!(line, "formula {} {}", refusal.line, refusal.number)
             }
         }
     }

@@ -1,8 +1,11 @@
-//! Document 01, "The line printed", and Note 1 of document 02: the program `check`.
+//! Document 01, "The line printed", and document 02, Notes 1 and 4: the program
+//! `check`.
 
 use std::fs;
 use std::path::{Path, PathBuf};
 use std::process::Command;
+
+use checker::records::record;
 
 fn printed(folder: &Path) -> String {
     printed_for(&[folder])
@@ -42,6 +45,16 @@ fn a_missing_file_counts_as_empty() {
     let no_formula = folder("no_formula", &[("steps.bin", EXAMPLE_STEPS)]);
     assert_eq!(printed(&no_formula), "formula 1 10\n");
     assert_eq!(printed(&no_formula.join("nowhere")), "formula 1 10\n");
+}
+
+#[test]
+fn the_variable_of_23() {
+    let formula: &[u8] = b"p cnf 12 2\na 12 0\ne 2 5 0\n2 5 12 0\n-12 -5 -2 0\n";
+    for (pivot, line) in [(2, "bad 1 23 5\n"), (5, "bad 1 23 2\n")] {
+        let steps = record(1, [1, 2, pivot]);
+        let files = [("formula.dq", formula), ("steps.bin", &steps)];
+        assert_eq!(printed(&folder("clash", &files)), line);
+    }
 }
 
 #[test]

@@ -1,6 +1,7 @@
 //! The inputs of the fuzzer reach short buffers, ill-formed tables, and well-formed
 //! tables that no load made.
 
+use checker::records::record;
 use differential::compare::fields;
 use differential::fuzzed::scenario;
 use differential::oracle;
@@ -8,17 +9,23 @@ use differential::scenario::Call;
 
 const REST: &[u8] = b"p cnf 2 2\na 1 0\nd 2 0\n1 2 0\n-1 -2 0\n\0";
 
-/// Case and number of the first run.
-fn first_run(input: &[u8]) -> (u16, u16) {
+/// What the first run answers.
+fn first_answer(input: &[u8]) -> [u16; 4] {
     let scenario = scenario(input);
     let mut buffers = scenario.buffers;
     for call in &scenario.calls {
-        let [tag, _, second, _] = fields(oracle::answer(&mut buffers, call, &mut call.output()));
+        let word = oracle::answer(&mut buffers, call, &mut call.output());
         if let Call::Run(_) = call {
-            return (tag, second);
+            return fields(word);
         }
     }
     unreachable!("every scenario has a run")
+}
+
+/// Case and number of the first run.
+fn first_run(input: &[u8]) -> (u16, u16) {
+    let [tag, _, second, _] = first_answer(input);
+    (tag, second)
 }
 
 /// Case and first value of each write.
@@ -60,6 +67,18 @@ fn inputs_reach_what_is_lent() {
     for length in 0..whole.len() {
         first_run(&whole[..length]);
     }
+}
+
+#[test]
+fn inputs_reach_a_clash() {
+    for (pivot, variable) in [(1, 2), (2, 1)] {
+        let input = [REST, &record(1, [1, 2, pivot])].concat();
+        assert_eq!(first_answer(&input), [3, 1, 23, variable]);
+    }
+    // Clause 2 made {-1, 2}: no pair is left.
+    let front = [133, 0, 2, 0, 6, 0, 2, 0, 7, 0, 0];
+    let input = [&changed(&front)[..], &record(1, [1, 2, 1])].concat();
+    assert_eq!(first_answer(&input), [2, 1, 0, 0]);
 }
 
 #[test]

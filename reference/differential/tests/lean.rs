@@ -84,3 +84,12 @@ fn the_fast_checker_writes_the_borders() {
     }
     assert!(longest > 100_000, "{longest}");
 }
+
+/// The driver's header has the same number.
+#[test]
+fn the_header_has_this_interface() {
+    let path = concat!(env!("CARGO_MANIFEST_DIR"), "/../../include/kefthrun.h");
+    let header = std::fs::read_to_string(path).unwrap();
+    let line = format!("\n#define KEFTHRUN_INTERFACE {}u\n", lean::INTERFACE);
+    assert!(header.contains(&line), "{line}");
+}

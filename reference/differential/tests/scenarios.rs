@@ -15,9 +15,11 @@ use differential::program::Program;
 use differential::scenario::Call;
 
 /// Call, tag and, in a refusal, its number; of a show, how many of its two values
-/// are not 0.
+/// are not 0. Only a run refused with 23 tells a variable.
 fn outcome(call: &Call, word: u64) -> (&'static str, u16, u16) {
-    let [tag, first, second, _] = fields(word);
+    let [tag, first, second, variable] = fields(word);
+    let clash = matches!(call, Call::Run(_)) && (tag, second) == (3, 23);
+    assert_eq!(variable > 0, clash, "{}", call.short());
     match call {
         Call::Load(_) => ("load", tag, second),
         Call::Run(_) => ("run", tag, if tag == 3 { second } else { 0 }),
@@ -131,5 +133,21 @@ fn a_wrong_line_is_found() {
     fs::write(&script, "#!/bin/sh\necho open 0\nexit 3\n").unwrap();
     for case in cases::fixed().iter().take(200) {
         assert!(program.difference(case).unwrap().is_some());
+    }
+    let (two, wide) = ("clash/two pairs", "clash/33 literals, one pair in front");
+    let wrong = ["bad 1 23", "bad 1 23 0", "bad 1 23 50"];
+    assert_only(&script, &program, two, "bad 1 23 7", wrong);
+    let wrong = ["bad 1 24 0", "bad 1 24 1", "bad 1 23 1"];
+    assert_only(&script, &program, wide, "bad 1 24", wrong);
+}
+
+/// Of some lines that a program prints for a fixed case only one is right.
+fn assert_only(script: &Path, program: &Program, label: &str, right: &str, wrong: [&str; 3]) {
+    let fixed = cases::fixed();
+    let case = fixed.iter().find(|case| case.label == label).expect(label);
+    for line in [right].into_iter().chain(wrong) {
+        fs::write(script, format!("#!/bin/sh\necho {line}\n")).unwrap();
+        let difference = program.difference(case).unwrap();
+        assert_eq!(difference.is_none(), line == right, "{line}");
     }
 }

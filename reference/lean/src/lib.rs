@@ -7,7 +7,7 @@
 //! | call | tag 1 | another tag |
 //! |---|---|---|
 //! | load | accepted | 4, refused: line, number |
-//! | run | refuted: steps, clause | 2, open: steps; 3, bad: step, number |
+//! | run | refuted: steps, clause | 2, open: steps; 3, bad: step, number, variable of 23 |
 //! | show | place and length in entries; 0 and 0 where a question is refused | |
 //! | clause | length | 2, refused: number |
 //! | variable | kind, universals | 2, refused: number |
@@ -31,9 +31,10 @@ pub type Lent<'a> = [&'a mut [u8]; 5];
 pub type Shared<'a> = [&'a [u8]; 5];
 
 /// The number of the interface: KEFTHRUN_INTERFACE of include/kefthrun.h.
-pub const INTERFACE: u32 = 2;
+pub const INTERFACE: u32 = 3;
 
-/// The word of a tag and its values.
+/// The word of a tag and its values. A refusal of a step may have a variable in the
+/// 16 bits above its number, the last field.
 fn word(tag: u64, first: u64, second: u64) -> u64 {
     tag | first << 16 | second << 32
 }
@@ -68,7 +69,7 @@ pub fn run(records: &[u8], mut lent: Lent) -> u64 {
     let outcome = steps::run(records, &mut tables);
     tables.write_added(&before, &mut lent);
     match outcome {
-        Err((step, number)) => word(3, step, number),
+        Err((step, refusal)) => word(3, step, refusal),
         Ok(()) if tables.counts.empty == 0 => word(2, tables.counts.steps as u64, 0),
         Ok(()) => word(1, tables.counts.steps as u64, tables.counts.empty as u64),
     }

@@ -4,14 +4,17 @@ use crate::tables::{Tables, CLAUSES, LITERALS, VARIABLES, WIDTH};
 
 const RECORD: usize = 16;
 const LIST: usize = 32_768;
+/// No variable stands in both signs.
+const NONE: u16 = u16::MAX;
 
-/// Takes a list up to its first refused step: its place and number.
+/// Takes a list up to its first refused step: its place and refusal. A refusal is
+/// its number; 23 has its variable in the 16 bits above.
 pub fn run(records: &[u8], tables: &mut Tables) -> Result<(), (u64, u64)> {
     if records.len() > LIST {
         return Err((0, 11));
     }
     for (index, record) in records.chunks(RECORD).enumerate() {
-        step(record, tables).map_err(|number| (index as u64 + 1, number))?;
+        step(record, tables).map_err(|refusal| (index as u64 + 1, refusal))?;
     }
     Ok(())
 }
@@ -48,27 +51,27 @@ fn resolution(tables: &mut Tables, first: u32, second: u32, pivot: i32) -> Resul
         return Err(22);
     }
     let mut new = [0; 2 * WIDTH];
-    let (length, tautology) = merge(first, second, pivot, &mut new);
+    let (length, lowest) = merge(first, second, pivot, &mut new);
     if length > WIDTH {
         return Err(24);
     }
-    if tautology {
-        return Err(23);
+    if lowest != NONE {
+        return Err(23 | u64::from(lowest) << 16);
     }
     room(tables, 1, length, 0)?;
     tables.add(&new[..length]);
     Ok(())
 }
 
-/// Writes both clauses without the pivot's variable, by variables: the number
-/// of different literals, and whether some are complementary.
-fn merge(first: &[i16], second: &[i16], pivot: i16, new: &mut [i16; 2 * WIDTH]) -> (usize, bool) {
-    let (mut i, mut j, mut length, mut tautology) = (0, 0, 0, false);
+/// Writes both clauses without the pivot's variable, by variables: the number of
+/// different literals, and the lowest variable in both signs or `NONE`.
+fn merge(first: &[i16], second: &[i16], pivot: i16, new: &mut [i16; 2 * WIDTH]) -> (usize, u16) {
+    let (mut i, mut j, mut length, mut lowest) = (0, 0, 0, NONE);
     loop {
         let one = first.get(i).copied();
         let other = second.get(j).copied();
         let literal = match (one, other) {
-            (None, None) => return (length, tautology),
+            (None, None) => return (length, lowest),
             (Some(l), None) => (l, 1, 0),
             (None, Some(m)) => (m, 0, 1),
             (Some(l), Some(m)) if l == m => (l, 1, 1),
@@ -77,10 +80,12 @@ fn merge(first: &[i16], second: &[i16], pivot: i16, new: &mut [i16; 2 * WIDTH]) 
         };
         i += literal.1;
         j += literal.2;
-        if literal.0.unsigned_abs() == pivot.unsigned_abs() {
+        let variable = literal.0.unsigned_abs();
+        if variable == pivot.unsigned_abs() {
             continue;
         }
-        tautology |= length > 0 && new[length - 1] == -literal.0;
+        let paired = length > 0 && new[length - 1] == -literal.0;
+        lowest = lowest.min(if paired { variable } else { NONE });
         new[length] = literal.0;
         length += 1;
     }

@@ -82,7 +82,7 @@ impl Converter {
         let taken = self.state.step(&bytes);
         taken.map_err(|number| match number {
             Number::NoRoom => "over 2,048 clauses or 8,192 literals".into(),
-            other => format!("refused with {}", other.value()),
+            other => format!("refused with {other}"),
         })?;
         self.records.extend(bytes);
         Ok(self.state.clauses().len() as u32)

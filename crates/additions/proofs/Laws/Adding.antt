@@ -3,6 +3,7 @@ use mathlib.Core.Path.{_≡_, refl, sym, _∙_, ap}
 use mathlib.Core.Logic.{_≢_}
 use mathlib.Core.Bool.{Bool, true, false, cond}
 use mathlib.Core.List.{List, [], _∷_, _++_, append-assoc}
+use mathlib.Core.Option.{none, some}
 use native.Mathlib.Nat.{add-zero}
 use Prim.Native.Nat.{ℕ, suc, _+_, _-_, _≤_, _<_}
 use native.Mathlib.Omega.{arith}
@@ -18,12 +19,14 @@ use lib.Seq.{length-take-le, drop-append-le}
 use borrow.Rule.Slice.PartMut.{putMid, put-same}
 use Rattle.tables.proofs.Laws.Rows.{stored-stored, stored-tail}
 use Rattle.dqbf.specs.Limits.{tables, widthLimit, clauseLimit, literalLimit, variableLimit}
-use Rattle.dqbf.specs.Refusal.{Refusal, refusal}
-use Rattle.dqbf.specs.Literal.{Clause, clashes, total}
+use Rattle.dqbf.specs.Refusal.{Refusal, refusal, naming, refusalTold}
+use Rattle.dqbf.specs.declared.refusal.Refusal as Code
+use Rattle.dqbf.specs.declared.refusal.Refusal.the-variants.{Plain, Naming}
+use Rattle.dqbf.specs.Literal.{Clause, clashes, lowestClash, total}
 use Rattle.dqbf.specs.Set.{Set}
 use Rattle.dqbf.specs.Model.{Model}
 use Rattle.dqbf.specs.Rules.{Addition, noRoom}
-use Rattle.dqbf.specs.Run.{Examined, accepts, refuses, after}
+use Rattle.dqbf.specs.Run.{Examined, accepts, refuses, after, refusalOf}
 use Rattle.dqbf.specs.Published.{Fits}
 use Rattle.dqbf.proofs.Laws.Models.{fits-in}
 use Rattle.tables.specs.Tables.{Tables, tablesOf, modelIn, stretch}
@@ -38,8 +41,8 @@ use Rattle.tables.proofs.Laws.Formed.{long-is, formed-is}
 use Rattle.dqbf.proofs.Laws.Tests.{ltb-no}
 use Rattle.joins.specs.Joining.{overlaid}
 use Rattle.joins.proofs.Laws.Overlays.{overlaid-fits}
-use Rattle.additions.specs.Examined.{AfterStep, stepAnswer, examined}
-use Rattle.additions.specs.Adding.{Holding, After, One, Two, fitted, tested, refusalNumber}
+use Rattle.additions.specs.Examined.{stepTold, AfterStep, examined}
+use Rattle.additions.specs.Adding.{Holding, After, refusedBy, One, Two, fitted, tested, refusalNumber, refusalFor}
 use Rattle.additions.specs.declared.Stepped.{Stepped}
 use Rattle.additions.specs.declared.StepAnswer.the-variants.{Accepted, Refused}
 
@@ -48,9 +51,9 @@ module _ (t : Tables) (s : State) (h : Holding t s) where
   m = modelIn t s
 
   -- a refusal changes nothing
-  pub left-refused : (x : Refusal) → _≡_ {A = AfterStep} (record { tables = t; state = s; answer = Refused (x .number) }) (examined t m (refuses x))
-  unfolding examined after stepAnswer
-  left-refused x = λ i. record { tables = sym (model-held t s (h .lent) (h .formed)) i; state = sym (state-held t s (h .lent) (h .formed)) i; answer = Refused (x .number) }
+  pub left-refused : (x : Refusal) → _≡_ {A = AfterStep} (record { tables = t; state = s; answer = some x }) (examined t m (refuses x))
+  unfolding examined after refusalOf
+  left-refused x = λ i. record { tables = sym (model-held t s (h .lent) (h .formed)) i; state = sym (state-held t s (h .lent) (h .formed)) i; answer = some x }
 
   -- one clause more
   pub left-one : (C : Clause) → Fits tables m (One C)
@@ -58,11 +61,11 @@ module _ (t : Tables) (s : State) (h : Holding t s) where
       (record {
         tables = tablesOf (stored (t .literals) (s .literals) C) (set (t .ends) (s .clauses .0) (s .literals + length C)) (t .sets) (t .kinds);
         state = stepCounted (clauseEnded s (length C));
-        answer = Accepted;
+        answer = none;
       })
       (examined t m (accepts (One C)))
-  unfolding examined after stepAnswer
-  left-one C fits = let a = one-clause t s (h .lent) (h .formed) C fits in λ i. record { tables = a .tables i; state = a .state i; answer = Accepted }
+  unfolding examined after refusalOf
+  left-one C fits = let a = one-clause t s (h .lent) (h .formed) C fits in λ i. record { tables = a .tables i; state = a .state i; answer = none }
 
   -- two clauses and a variable more
   pub left-two : (C D : Clause) (w : Set) → Fits tables m (Two C D w)
@@ -72,11 +75,11 @@ module _ (t : Tables) (s : State) (h : Holding t s) where
             (set (set (t .ends) (s .clauses .0) (s .literals + length C)) (s .clauses .0 + 1) (s .literals + length C + length D)) (set (t .sets) (s .variables .0) w)
             (set (t .kinds) (s .variables .0) 3);
         state = stepCounted (variableAdded (clauseEnded (clauseEnded s (length C)) (length D)));
-        answer = Accepted;
+        answer = none;
       })
       (examined t m (accepts (Two C D w)))
-  unfolding examined after stepAnswer
-  left-two C D w fits = let a = two-clauses t s (h .lent) (h .formed) C D w fits in λ i. record { tables = a .tables i; state = a .state i; answer = Accepted }
+  unfolding examined after refusalOf
+  left-two C D w fits = let a = two-clauses t s (h .lent) (h .formed) C D w fits in λ i. record { tables = a .tables i; state = a .state i; answer = none }
 
 -- ---- the outcomes
 
@@ -109,6 +112,16 @@ module _ (s : State) (n : ℕ) (b : Bool) where
       unfolding refusalNumber
       number-0 h = rw (le-ltb widthLimit n narrow, calm, ← told, h)
 
+-- the refusal for a number
+module _ (n v : ℕ) where
+  pub clash-23 : n ≡ 23 → refusalFor n v ≡ Naming n v
+  unfolding refusalFor
+  clash-23 e = rw (eq-eqb n 23 e)
+
+  pub clash-other : n ≢ 23 → refusalFor n v ≡ Plain n
+  unfolding refusalFor
+  clash-other d = rw (ne-eqb n 23 d)
+
 -- ---- what the functions of src/adding.rt leave
 
 -- the tail lent to a writer, back with what it wrote
@@ -130,8 +143,13 @@ part-stored xs ys n m h k =
 
 module _ (t : Tables) (s : State) (h : Holding t s) where
   -- a refusal that the tests come to
-  pub after-refused : (e : Examined) (x : Refusal) {r : Stepped} → e ≡ refuses x → r ≡ record { state = s; answer = Refused (x .number) } → After t s e t r
-  after-refused e x p q = rw (p, q) (left-refused t s h x)
+  pub after-told : (e : Examined) (x : Code.Refusal) {r : Stepped} → e ≡ refuses (refusalTold x) → r ≡ record { state = s; answer = Refused x } → After t s e t r
+  unfolding stepTold
+  after-told e x p q = rw (p, q) (left-refused t s h (refusalTold x))
+
+  pub after-refused : (e : Examined) (n : ℕ) {r : Stepped} → e ≡ refuses (refusal n) → r ≡ refusedBy s n → After t s e t r
+  unfolding refusalTold
+  after-refused e n p q = after-told e (Plain n) p q
 
   -- one clause: e comes to the test of room, of which f tells
   module _ (e : Examined) (C : Clause) (is : e ≡ fitted (modelIn t s) (One C)) {w : ℕ} (width : w ≡ length C) {f : Bool} (told : f ≡ full s 1 w 0) where
@@ -139,8 +157,8 @@ module _ (t : Tables) (s : State) (h : Holding t s) where
     unfolding total
     no-room = room-told t s (h .lent) (h .formed) (One C) ∙ rw (add-zero (length C), told, width)
 
-    pub one-full : {r : Stepped} → f ≡ true → r ≡ record { state = s; answer = Refused 25 } → After t s e t r
-    one-full b q = after-refused e (refusal 25) (is ∙ fitted-25 (modelIn t s) (One C) (no-room ∙ b)) q
+    pub one-full : {r : Stepped} → f ≡ true → r ≡ refusedBy s 25 → After t s e t r
+    one-full b q = after-refused e 25 (is ∙ fitted-25 (modelIn t s) (One C) (no-room ∙ b)) q
 
     module _ (free : f ≡ false) where
       fits : Fits tables (modelIn t s) (One C)
@@ -156,6 +174,7 @@ module _ (t : Tables) (s : State) (h : Holding t s) where
 
       pub one-added : {n : ℕ} {l : List ℤ} {d : List ℕ} {r : State} → n ≡ length C → l ≡ stored (t .literals) (s .literals) C → d ≡ set (t .ends) (s .clauses .0) (s .literals + n) → r ≡ stepCounted (clauseEnded s n)
           → After t s e (tablesOf l d (t .sets) (t .kinds)) (record { state = r; answer = Accepted })
+      unfolding stepTold
       one-added q o u v = rw (is, fitted-accepted (modelIn t s) (One C) (no-room ∙ free), o, u, v, q) (left-one t s h C fits)
 
   -- ---- a resolvent, tested by its number
@@ -164,8 +183,8 @@ module _ (t : Tables) (s : State) (h : Holding t s) where
     room-is : noRoom tables (modelIn t s) (One C) ≡ full s 1 (length C) 0
     room-is = no-room (fitted (modelIn t s) (One C)) C refl refl refl
 
-    by-number : tested (modelIn t s) C ≡ cond (eqb x 0) (fitted (modelIn t s) (One C)) (refuses (refusal x))
-    unfolding tested fitted refusalNumber
+    by-number : tested (modelIn t s) C ≡ cond (eqb x 0) (fitted (modelIn t s) (One C)) (refuses (refusalTold (refusalFor x (lowestClash C))))
+    unfolding tested fitted refusalNumber refusalFor refusalTold
     by-number = rw (isX, room-is) (go (ltb widthLimit (length C)) (clashes C) (full s 1 (length C) 0))
       where
         number : Bool → Bool → Bool → ℕ
@@ -174,7 +193,8 @@ module _ (t : Tables) (s : State) (h : Holding t s) where
         room : Bool → Examined
         room f = cond f (refuses (refusal 25)) (accepts (One C))
 
-        go : (a b f : Bool) → cond a (refuses (refusal 24)) (cond b (refuses (refusal 23)) (room f)) ≡ cond (eqb (number a b f) 0) (room f) (refuses (refusal (number a b f)))
+        go : (a b f : Bool) → cond a (refuses (refusal 24)) (cond b (refuses (naming 23 (lowestClash C))) (room f))
+            ≡ cond (eqb (number a b f) 0) (room f) (refuses (refusalTold (refusalFor (number a b f) (lowestClash C))))
         go true b f = refl
         go false true f = refl
         go false false true = refl
@@ -185,21 +205,22 @@ module _ (t : Tables) (s : State) (h : Holding t s) where
       abbrev back : List ℤ
       back = putMid (s .literals) (literalLimit - s .literals) (t .literals) z
 
-      pub resolvent-refused : {r : Stepped} → x ≢ 0 → r ≡ record { state = s; answer = Refused x } → After t s (tested (modelIn t s) C) (tablesOf back (t .ends) (t .sets) (t .kinds)) r
-      resolvent-refused n p =
+      pub resolvent-refused : {v : ℕ} → v ≡ lowestClash C → {r : Stepped} → x ≢ 0 → r ≡ record { state = s; answer = Refused (refusalFor x v) }
+          → After t s (tested (modelIn t s) C) (tablesOf back (t .ends) (t .sets) (t .kinds)) r
+      resolvent-refused {v} e n p =
           let same : back ≡ t .literals = rw (left, ne-eqb x 0 n) (put-same (s .literals) (literalLimit - s .literals) (t .literals)) in
-          rw same (after-refused (tested (modelIn t s) C) (refusal x) (by-number ∙ rw (ne-eqb x 0 n)) p)
+          rw same (after-told (tested (modelIn t s) C) (refusalFor x v) (by-number ∙ rw (ne-eqb x 0 n, e)) p)
 
       pub resolvent-stored : x ≡ 0 → s .literals + length C ≤ literalLimit → back ≡ stored (t .literals) (s .literals) C
-      resolvent-stored none room = rw (left, eq-eqb x 0 none) (part-stored (t .literals) C (s .literals) literalLimit room (long-is t (h .lent) .literals))
+      resolvent-stored zero room = rw (left, eq-eqb x 0 zero) (part-stored (t .literals) C (s .literals) literalLimit room (long-is t (h .lent) .literals))
 
-    module _ (none : x ≡ 0) where
+    module _ (zero : x ≡ 0) where
       pub resolvent-fitted : tested (modelIn t s) C ≡ fitted (modelIn t s) (One C)
-      resolvent-fitted = by-number ∙ rw (eq-eqb x 0 none)
+      resolvent-fitted = by-number ∙ rw (eq-eqb x 0 zero)
 
       resolvent-narrow : (length C ≤ widthLimit) × (full s 1 (length C) 0 ≡ false)
       unfolding refusalNumber
-      resolvent-narrow = go (ltb widthLimit (length C)) refl (clashes C) (full s 1 (length C) 0) (sym isX ∙ none)
+      resolvent-narrow = go (ltb widthLimit (length C)) refl (clashes C) (full s 1 (length C) 0) (sym isX ∙ zero)
         where
           go : (a : Bool) → ltb widthLimit (length C) ≡ a → (b f : Bool) → _≡_ {A = ℕ} (cond a 24 (cond b 23 (cond f 25 0))) 0 → (length C ≤ widthLimit) × (f ≡ false)
           go true e b f q = absurd (omega arith)
@@ -228,8 +249,8 @@ module _ (t : Tables) (s : State) (h : Holding t s) (e : Examined) (C D : Clause
   unfolding total
   no-room-two = room-told t s (h .lent) (h .formed) (Two C D w) ∙ rw (add-zero (length D), told, both, left, right)
 
-  pub two-full : {r : Stepped} → f ≡ true → r ≡ record { state = s; answer = Refused 25 } → After t s e t r
-  two-full k q = after-refused t s h e (refusal 25) (is ∙ fitted-25 (modelIn t s) (Two C D w) (no-room-two ∙ k)) q
+  pub two-full : {r : Stepped} → f ≡ true → r ≡ refusedBy s 25 → After t s e t r
+  two-full k q = after-refused t s h e 25 (is ∙ fitted-25 (modelIn t s) (Two C D w) (no-room-two ∙ k)) q
 
   module _ (free : f ≡ false) where
     fits-two : Fits tables (modelIn t s) (Two C D w)
@@ -260,6 +281,7 @@ module _ (t : Tables) (s : State) (h : Holding t s) (e : Examined) (C D : Clause
         → d ≡ set (set (t .ends) (s .clauses .0) (s .literals + a)) (s .clauses .0 + 1) (s .literals + a + b) → u ≡ set (t .sets) (s .variables .0) w
         → k ≡ set (t .kinds) (s .variables .0) 3 → r ≡ stepCounted (variableAdded (clauseEnded (clauseEnded s a) b))
         → After t s e (tablesOf l d u k) (record { state = r; answer = Accepted })
+    unfolding stepTold
     two-added {z = z} p o q x y v =
         let inside : s .literals ≤ length (t .literals) = omega (arith, two-room) in
         rw (
@@ -309,7 +331,7 @@ module _ (t : Tables) (s : State) (h : Holding t s) (X Y : Clause) (w : Set) {a 
   second : b + 1 ≡ length D
   second = one-more Y (negsuc (s .variables .0)) isB
 
-  pub fork-full : {r : Stepped} → f ≡ true → r ≡ record { state = s; answer = Refused 25 } → After t s forked t r
+  pub fork-full : {r : Stepped} → f ≡ true → r ≡ refusedBy s 25 → After t s forked t r
   fork-full = two-full t s h forked C D w refl first second refl told
 
   module _ (free : f ≡ false) where

@@ -1,5 +1,5 @@
 -- Any list of loads, steps, runs and calls that write neither tables nor state over the same tables, which may hold anything at first (document 01, "another load starts another
--- list"). A run's answer is about the text of the last load before it. If that load accepted and the run answers Refuted, the text says a formula that no
+-- list"). A run's answer is about the text of the last load before it. If that load accepted and the run answers refuted, the text says a formula that no
 -- family makes true.
 use mathlib.Core.Path.{_≡_}
 use mathlib.Core.List.{List, [], _∷_}
@@ -9,13 +9,11 @@ use Rattle.dqbf.specs.Literal.{_∈_}
 use Rattle.dqbf.specs.Formula.{Formula}
 use Rattle.dqbf.specs.Meaning.{Refuted}
 use Rattle.dqbf.specs.Reading.{load, accepted}
-use Rattle.tables.specs.declared.StepNumber.{StepNumber}
-use Rattle.tables.specs.declared.ClauseNumber.{ClauseNumber}
+use Rattle.dqbf.specs.Run.{refuted, Call, Answer, ran}
 use Rattle.dqdimacs.specs.Loading.{loadOf}
 use Rattle.dqdimacs.specs.declared.LoadAnswer.{LoadAnswer}
 use Rattle.dqdimacs.specs.declared.LoadAnswer.the-variants as LoadAnswer
-use Rattle.steps.specs.Statements.Refutation.{Lent, Call, Answer, ran, next, answer}
-use Rattle.steps.specs.declared.RunAnswer.the-variants as RunAnswer
+use Rattle.steps.specs.Statements.Refutation.{Lent, next, answer}
 use Rattle.calls.specs.Statements.Refutation.{loaded}
 
 -- a load with any bytes; a step, a run, or a call that writes neither tables nor state
@@ -48,6 +46,6 @@ allTold x (laterCall c ∷ cs) = record { text = x .text; answer = answer (x .le
 
 abbrev pub Reloading : Type 0
 Reloading =
-    (x : Lent) (calls : List AnyCall) (text : List ℕ) (steps : StepNumber) (clause : ClauseNumber)
-    → _∈_ {A = Told} (record { text = some text; answer = ran (RunAnswer.Refuted steps clause) }) (allTold (record { lent = x; text = none }) calls)
+    (x : Lent) (calls : List AnyCall) (text : List ℕ) (steps clause : ℕ)
+    → _∈_ {A = Told} (record { text = some text; answer = ran (refuted steps clause) }) (allTold (record { lent = x; text = none }) calls)
     → (φ : Formula) × (load text ≡ accepted φ) × Refuted φ

@@ -1,15 +1,14 @@
 -- The outcome of examining a record (specs/Rules.antt, specs/Run.antt), one law for each refusal and one for acceptance, in the order of the tests: each
 -- section assumes that the tests before it pass.
-use mathlib.Core.Path.{_≡_, refl}
-use mathlib.Core.Bool.{true, false, not, _&&_, _||_}
-use mathlib.Core.Option.{none, some}
+use mathlib.Core.Path.{_≡_}
+use mathlib.Core.Bool.{true, false, _&&_, _||_}
 use Prim.Native.Nat.{ℕ}
 use lib.Dec.{eqb, ltb}
 use lib.IntN.{ℤ, negℤ, natAbs}
 use lib.ListN.{length}
 use Rattle.dqbf.specs.Limits.{Room, widthLimit}
-use Rattle.dqbf.specs.Refusal.{refusal, first}
-use Rattle.dqbf.specs.Literal.{holds, without, clashes, pick, covers}
+use Rattle.dqbf.specs.Refusal.{refusal, naming, first}
+use Rattle.dqbf.specs.Literal.{holds, without, clashes, lowestClash, pick, covers}
 use Rattle.dqbf.specs.Set.{inside}
 use Rattle.dqbf.specs.Model.{Model, kindOf, setOf, clauseSet}
 use Rattle.dqbf.specs.Record.{Record, resolution, reduction, fork}
@@ -42,7 +41,7 @@ module _ (room : Room) (m : Model) (c d : ℕ) (p : ℤ) where
         resolution-24 h = rw (known, known′, held, h)
 
         module _ (narrow : ltb widthLimit (length (resolvent (clauseAt m c) (clauseAt m d) p)) ≡ false) where
-          pub resolution-23 : clashes (resolvent (clauseAt m c) (clauseAt m d) p) ≡ true → examine room m r ≡ refuses (refusal 23)
+          pub resolution-23 : clashes (resolvent (clauseAt m c) (clauseAt m d) p) ≡ true → examine room m r ≡ refuses (naming 23 (lowestClash (resolvent (clauseAt m c) (clauseAt m d) p)))
           unfolding examine tests ruleTests resolutionTests judged first
           resolution-23 h = rw (known, known′, held, narrow, h)
 

@@ -17,7 +17,7 @@ use Rattle.formula_text.specs.Writing.{writeOf}
 use Rattle.codec.specs.Bytes.{entries, literalsIn, over}
 use Rattle.codec.specs.State as Codec
 use Rattle.buffers.specs.Buffers.{Buffers, buffersOf, stateWhole, whole, tablesIn, stateIn}
-use Rattle.results.specs.Results.{packed, loadResult, runResult, clauseResult, showResult, stretchResult, variableResult, writeResult}
+use Rattle.results.specs.Results.{packed, namedVariable, loadResult, runResult, clauseResult, showResult, stretchResult, variableResult, writeResult}
 use Rattle.buffers.proofs.Laws.{Sizes, whole-sizes}
 use Rattle.results.proofs.Laws.{stretch-shown}
 use Rattle.exports.specs.Calls.{After, loaded, loadShort, loadBytes, ran, runShort, runBytes, showBytes, clauseBytes, variableBytes, AfterWriteBytes, wrote, writeShort, writeBytes}
@@ -37,8 +37,8 @@ sizes b {a} told h = whole-sizes b (sym told ∙ not-false a h)
 -- ---- a run
 
 module _ (b : Buffers) (records : List ℕ) {a : Bool} (told : a ≡ whole b) where
-  pub run-short : {r : ℕ} → not a ≡ true → r ≡ packed 3 0 1 → _≡_ {A = After} (record { buffers = b; result = r }) (runBytes b records)
-  unfolding runBytes runShort runResult
+  pub run-short : {r : ℕ} → not a ≡ true → r ≡ packed 3 0 1 0 → _≡_ {A = After} (record { buffers = b; result = r }) (runBytes b records)
+  unfolding runBytes runShort runResult namedVariable
   run-short h e = rw (← told, not-true a h, e)
 
   pub run-on : not a ≡ false → {x : After} → x ≡ ran b (runOf (tablesIn b) (stateIn b) records) → x ≡ runBytes b records
@@ -48,7 +48,7 @@ module _ (b : Buffers) (records : List ℕ) {a : Bool} (told : a ≡ whole b) wh
 -- ---- a load
 
 module _ (b : Buffers) (text : List ℕ) {a : Bool} (told : a ≡ whole b) where
-  pub load-short : {s : List ℕ} {r : ℕ} → not a ≡ true → s ≡ cond (leb 16 (length (b .state))) (over (replicate 16 0) (b .state)) (b .state) → r ≡ packed 4 0 1
+  pub load-short : {s : List ℕ} {r : ℕ} → not a ≡ true → s ≡ cond (leb 16 (length (b .state))) (over (replicate 16 0) (b .state)) (b .state) → r ≡ packed 4 0 1 0
       → _≡_ {A = After} (record { buffers = buffersOf (b .literals) (b .ends) (b .sets) (b .kinds) s; result = r }) (loadBytes b text)
   unfolding loadBytes loadShort loadResult stateWhole
   load-short h z e = rw (← told, not-true a h, e, z)
@@ -60,7 +60,7 @@ module _ (b : Buffers) (text : List ℕ) {a : Bool} (told : a ≡ whole b) where
 -- ---- a written formula
 
 module _ (b : Buffers) (out : List ℕ) {a : Bool} (told : a ≡ whole b) where
-  pub write-short : {r : ℕ} → not a ≡ true → r ≡ packed 2 1 0 → _≡_ {A = AfterWriteBytes} (record { output = out; result = r }) (writeBytes b out)
+  pub write-short : {r : ℕ} → not a ≡ true → r ≡ packed 2 1 0 0 → _≡_ {A = AfterWriteBytes} (record { output = out; result = r }) (writeBytes b out)
   unfolding writeBytes writeShort writeResult
   write-short h e = rw (← told, not-true a h, e)
 
@@ -71,7 +71,7 @@ module _ (b : Buffers) (out : List ℕ) {a : Bool} (told : a ≡ whole b) where
 -- ---- calls that write nothing
 
 module _ (b : Buffers) (n : ℕ) {a : Bool} (told : a ≡ whole b) where
-  module _ {r : ℕ} (h : not a ≡ true) (e : r ≡ packed 2 1 0) where
+  module _ {r : ℕ} (h : not a ≡ true) (e : r ≡ packed 2 1 0 0) where
     pub clause-short : r ≡ clauseBytes b n
     unfolding clauseBytes clauseResult
     clause-short = rw (← told, not-true a h) e
@@ -80,7 +80,7 @@ module _ (b : Buffers) (n : ℕ) {a : Bool} (told : a ≡ whole b) where
     unfolding variableBytes variableResult
     variable-short = rw (← told, not-true a h) e
 
-  pub show-short : {r : ℕ} → not a ≡ true → r ≡ packed 1 0 0 → r ≡ showBytes b n
+  pub show-short : {r : ℕ} → not a ≡ true → r ≡ packed 1 0 0 0 → r ≡ showBytes b n
   unfolding showBytes showResult
   show-short h e = rw (← told, not-true a h) e
 

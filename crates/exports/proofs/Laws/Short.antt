@@ -1,4 +1,4 @@
--- Numbers of 16 bits: the numbers of refusal, the lines of a text, the steps and clauses of a run.
+-- Numbers of 16 bits: the numbers of refusal and the variables that they name, the lines of a text, the steps and clauses of a run.
 use mathlib.Core.Path.{_≡_, refl}
 use mathlib.Core.Bool.{_&&_, Bool, true, false, cond}
 use mathlib.Core.List.{List, [], _∷_, _++_}
@@ -21,10 +21,13 @@ use Rattle.dqbf.specs.Record.{Record, resolution, reduction, fork, recordOf, st
 use Rattle.dqbf.specs.Rules.{clauseAt, added, resolutionTests, reductionTests, forkTests, ruleTests, noRoom, tests}
 use Rattle.dqbf.specs.Run.{Examined, accepts, refuses, judged, examine, examineOr20, examineBytes, after, Verdict, refuted, open′, bad, verdictOf, goOn, runFrom, run}
 use Rattle.dqbf.specs.Run as Run
+use Rattle.dqbf.proofs.ClashingVariable.{clashing-variable}
 use Rattle.dqbf.proofs.SetSize.{set-size}
 use Rattle.dqbf.proofs.StepsKeepValid.{call-keeps}
 use Rattle.tables.specs.Spread.{stateOf}
 use Rattle.codec.specs.State.{counts}
+use Rattle.results.specs.Results.{namedVariable}
+use Rattle.exports.proofs.Laws.Named.{named-well}
 use Rattle.exports.proofs.Laws.Fits.{each-append, each-member, counts-small}
 
 abbrev pub Short : ℕ → Type 0
@@ -72,16 +75,26 @@ record-short m none = omega arith
 record-short m (some r) =
     judged-short m r (first (tests tables m r)) (first-short (tests tables m r) (one-more (ruleTests m r) (refusal 25) (noRoom tables m (added m r)) (omega arith) (rule-short m r)))
 
-examine-short : (m : Model) (bytes : List ℕ) → ShortExamined (examineBytes tables m bytes)
-unfolding examineBytes
-examine-short m bytes = record-short m (recordOf bytes)
+-- ---- the variable that a refusal names
+
+ShortNamed : Examined → Type 0
+ShortNamed (accepts a) = Unit {0}
+ShortNamed (refuses r) = Short (r .number) × Short (namedVariable r)
+
+examine-short : (m : Model) → Valid tables m → (bytes : List ℕ) → ShortNamed (examineBytes tables m bytes)
+unfolding ShortNamed ShortExamined examineBytes
+examine-short m v bytes = go (examineBytes tables m bytes) refl (record-short m (recordOf bytes))
+  where
+    go : (e : Examined) → examineBytes tables m bytes ≡ e → ShortExamined e → ShortNamed e
+    go (accepts a) q h = tt
+    go (refuses r) q h = (h, named-well m v bytes r (clashing-variable tables m v bytes r q) .short)
 
 -- ---- a run
 
 unfoldable pub ShortVerdict : Verdict → Type 0
 ShortVerdict (refuted s k) = Short s × Short k
 ShortVerdict (open′ s) = Short s
-ShortVerdict (bad s r) = Short s × Short (r .number)
+ShortVerdict (bad s r) = Short s × Short (r .number) × Short (namedVariable r)
 
 told-short : (m : Model) → Short (steps m) → Short (lowestEmpty m) → (c : Bool) → ShortVerdict (cond c (open′ (steps m)) (refuted (steps m) (lowestEmpty m)))
 unfolding ShortVerdict
@@ -93,16 +106,16 @@ unfolding verdictOf counts stateOf
 verdict-short m v = told-short m (counts-small m v 6) (counts-small m v 7) (eqb (lowestEmpty m) 0)
 
 going-short : (m : Model) (n : ℕ) (rest : Model → Run.Ran) → Short n → ((m′ : Model) → Valid tables m′ → ShortVerdict (rest m′ .verdict))
-    → (e : Examined) → ShortExamined e → Valid tables (after m e) → ShortVerdict (goOn e m n rest .verdict)
-unfolding goOn after ShortExamined ShortVerdict
+    → (e : Examined) → ShortNamed e → Valid tables (after m e) → ShortVerdict (goOn e m n rest .verdict)
+unfolding goOn after ShortNamed ShortVerdict
 going-short m n rest h f (accepts a) k v = f _ v
-going-short m n rest h f (refuses r) k v = (h, k)
+going-short m n rest h f (refuses r) k v = (h, k .0, k .1)
 
 from-short : (rs : List (List ℕ)) (n : ℕ) → n + length rs < 65536 → (m : Model) → Valid tables m → ShortVerdict (runFrom tables rs n m .verdict)
 unfolding runFrom Run.next
 from-short [] n h m v = verdict-short m v
 from-short (bytes ∷ rs) n h m v =
-    going-short m (suc n) (λ m′. runFrom tables rs (suc n) m′) (omega arith) (from-short rs (suc n) (omega arith)) (examineBytes tables m bytes) (examine-short m bytes)
+    going-short m (suc n) (λ m′. runFrom tables rs (suc n) m′) (omega arith) (from-short rs (suc n) (omega arith)) (examineBytes tables m bytes) (examine-short m v bytes)
     (call-keeps tables m v (Run.stepCall bytes))
 
 stretches-few : (n : ℕ) (bytes : List ℕ) → length (stretches n bytes) ≤ n
@@ -112,12 +125,12 @@ stretches-few (suc n) [] = omega arith
 stretches-few (suc n) (b ∷ bytes) = let h = stretches-few n (drop recordSize (b ∷ bytes)) in omega arith
 
 pub run-short : (m : Model) → Valid tables m → (bytes : List ℕ) → ShortVerdict (run tables m bytes .verdict)
-unfolding run ShortVerdict
+unfolding run ShortVerdict namedVariable
 run-short m v bytes = go (ltb recordsLimit (length bytes)) refl
   where
     go : (c : Bool) → ltb recordsLimit (length bytes) ≡ c
         → ShortVerdict (cond c (record { model = m; verdict = bad 0 (refusal 11) }) (runFrom tables (stretches (length bytes) bytes) 0 m) .verdict)
-    go true e = (omega arith, omega arith)
+    go true e = (omega arith, omega arith, omega arith)
     go false e = from-short (stretches (length bytes) bytes) 0 (omega (arith, stretches-few (length bytes) bytes, ltb-false recordsLimit (length bytes) e)) m v
 
 -- ---- a load

@@ -40,8 +40,8 @@ module _ (b : Buffers) (out : List ℕ) (P : AfterWriteBytes → Type 0)
 
 pub never-told : (n : ℕ) → field 0 (writeResult (noText (refusal n))) ≡ 1 → ⊥
 unfolding writeResult
-never-told n e = omega (arith, case-is 2 n 0 (omega arith), e)
+never-told n e = omega (arith, case-is 2 n 0 0 (omega arith), e)
 
 pub never-refused : (n : ℕ) → field 0 (writeResult (textLength n)) ≡ 2 → ⊥
 unfolding writeResult
-never-refused n e = omega (arith, case-is 1 n (n / 65536) (omega arith), e)
+never-refused n e = omega (arith, case-is 1 n (n / 65536) 0 (omega arith), e)

@@ -17,7 +17,7 @@ use Rattle.exports.specs.Statements.Fields.{fields}
 
 -- a result with place and length of the shown clause in the literals
 pub record Tells (t : Tables) (s : State) (c r : ℕ) : Type 0 where
-  pub told : fields r ≡ 1 ∷ shownStart t s c ∷ length (shownClause t s c) ∷ []
+  pub told : fields r ≡ 1 ∷ shownStart t s c ∷ length (shownClause t s c) ∷ 0 ∷ []
   pub there : stretch (shownStart t s c) (shownStart t s c + length (shownClause t s c)) (t .literals) ≡ shownClause t s c
   pub inside : shownStart t s c + length (shownClause t s c) ≤ length (t .literals)
 
@@ -28,4 +28,4 @@ abbrev pub ShowsTheLength : Type 0
 ShowsTheLength = (b : Buffers) (c : ℕ) → field 0 (clauseBytes b c) ≡ 1 → field 2 (showBytes b c) ≡ field 1 (clauseBytes b c)
 
 abbrev pub ShowsNothing : Type 0
-ShowsNothing = (b : Buffers) (c : ℕ) → field 0 (clauseBytes b c) ≡ 2 → fields (showBytes b c) ≡ 1 ∷ 0 ∷ 0 ∷ []
+ShowsNothing = (b : Buffers) (c : ℕ) → field 0 (clauseBytes b c) ≡ 2 → fields (showBytes b c) ≡ 1 ∷ 0 ∷ 0 ∷ 0 ∷ []

@@ -22,6 +22,15 @@ mul-result-2 c = search needs
 add-result-2 : tie.Need-add-result-2
 add-result-2 c = search needs
 
+cast-result-3 : tie.Need-cast-result-3
+cast-result-3 c = search needs
+
+mul-result-3 : tie.Need-mul-result-3
+mul-result-3 c = search needs
+
+add-result-3 : tie.Need-add-result-3
+add-result-3 c = search needs
+
 returns : tie.Need-returns
 unfolding packed
 returns c = search needs
@@ -29,4 +38,14 @@ returns c = search needs
 pub pack-spec : {M : Type 1} → statement M
 pack-spec =
     tie.close
-    (tie.spec cast-result mul-result add-result cast-result-2 mul-result-2 add-result-2 returns)
+    (tie.spec
+    cast-result
+    mul-result
+    add-result
+    cast-result-2
+    mul-result-2
+    add-result-2
+    cast-result-3
+    mul-result-3
+    add-result-3
+    returns)

@@ -11,7 +11,6 @@ use lib.IntN.{ℤ, pos, negsuc, negℤ, natAbs}
 use lib.ListN.{length, take, drop, length-take}
 use lib.Seq.{length-take-le}
 use Rattle.dqbf.specs.Limits.{tables, widthLimit, literalRange}
-use Rattle.dqbf.specs.Refusal.{refusal}
 use Rattle.dqbf.specs.Literal.{Clause, _∈_, literalIn, holds, without, join, clashes, pick, covers}
 use Rattle.dqbf.specs.Set.{Set, single, inside, common}
 use Rattle.dqbf.specs.Model.{Model, clauses, used, kindOf, setOf, clauseSet}
@@ -34,10 +33,9 @@ use Rattle.tables.proofs.Laws.Held.{sets-is}
 use Rattle.tables.proofs.Laws.Formed.{long-is, formed-is}
 use Rattle.tables.proofs.Laws.Spread.{valid-held}
 use Rattle.tables.proofs.Laws.Entries.{unknown-told, range-rises, range-ends, range-narrow, clause-at, clause-there, kind-told, set-told, literal-in-use}
-use Rattle.additions.specs.Adding.{Holding, After, One, Two, fitted, tested}
+use Rattle.additions.specs.Adding.{Holding, After, refusedBy, One, Two, fitted, tested}
 use Rattle.rules.specs.Clauses.{isUnknown, Ranged}
 use Rattle.additions.specs.declared.Stepped.{Stepped}
-use Rattle.additions.specs.declared.StepAnswer.the-variants.{Refused}
 use Rattle.additions.proofs.Laws.Adding.{after-refused}
 use Rattle.rules.proofs.Laws.Pivots.{pivot-holds, pivot-is}
 
@@ -174,12 +172,12 @@ module _ (t : Tables) (s : State) (h : Holding t s) (c d : ℕ) (z : ℤ) {f g :
   abbrev E : Examined
   E = examine tables (modelIn t s) (resolution c d z)
 
-  pub resolve-first : {r : Stepped} → f ≡ true → r ≡ record { state = s; answer = Refused 21 } → After t s E t r
-  resolve-first b e = after-refused t s h E (refusal 21) (resolution-first tables (modelIn t s) c d z (unknown-is t s h c told ∙ b)) e
+  pub resolve-first : {r : Stepped} → f ≡ true → r ≡ refusedBy s 21 → After t s E t r
+  resolve-first b e = after-refused t s h E 21 (resolution-first tables (modelIn t s) c d z (unknown-is t s h c told ∙ b)) e
 
   module _ (known : f ≡ false) where
-    pub resolve-second : {r : Stepped} → g ≡ true → r ≡ record { state = s; answer = Refused 21 } → After t s E t r
-    resolve-second b e = after-refused t s h E (refusal 21) (resolution-second tables (modelIn t s) c d z (known-is t s h c told known) (unknown-is t s h d told′ ∙ b)) e
+    pub resolve-second : {r : Stepped} → g ≡ true → r ≡ refusedBy s 21 → After t s E t r
+    resolve-second b e = after-refused t s h E 21 (resolution-second tables (modelIn t s) c d z (known-is t s h c told known) (unknown-is t s h d told′ ∙ b)) e
 
     module _ (known′ : g ≡ false) {X Y : Clause} (isX : X ≡ stretch (entry (t .ends) (c - 1)) (entry (t .ends) c) (t .literals))
         (isY : Y ≡ stretch (entry (t .ends) (d - 1)) (entry (t .ends) d) (t .literals)) {P Q : ℤ} (p : P ≡ literalIn z) (q : Q ≡ negℤ P) {a : Bool} (inX : a ≡ holds P X) where
@@ -193,11 +191,11 @@ module _ (t : Tables) (s : State) (h : Holding t s) (c d : ℕ) (z : ℤ) {f g :
       first-in = in-clause t s h c told known X-is z (rw p at inX)
 
       -- 22, if the test of the first or of the second clause fails
-      not-held : {r : Stepped} → (holds z (clauseAt (modelIn t s) c) && holds (negℤ z) (clauseAt (modelIn t s) d)) ≡ false → r ≡ record { state = s; answer = Refused 22 } → After t s E t r
+      not-held : {r : Stepped} → (holds z (clauseAt (modelIn t s) c) && holds (negℤ z) (clauseAt (modelIn t s) d)) ≡ false → r ≡ refusedBy s 22 → After t s E t r
       not-held b e =
-          after-refused t s h E (refusal 22) (resolution-22 tables (modelIn t s) c d z (known-is t s h c told known) (known-is t s h d told′ known′) b) e
+          after-refused t s h E 22 (resolution-22 tables (modelIn t s) c d z (known-is t s h c told known) (known-is t s h d told′ known′) b) e
 
-      pub resolve-pivot : {r : Stepped} → not a ≡ true → r ≡ record { state = s; answer = Refused 22 } → After t s E t r
+      pub resolve-pivot : {r : Stepped} → not a ≡ true → r ≡ refusedBy s 22 → After t s E t r
       resolve-pivot b e = not-held (rw (first-in, not-true a b)) e
 
       module _ (held : not a ≡ false) {b : Bool} (inY : b ≡ holds Q Y) where
@@ -207,7 +205,7 @@ module _ (t : Tables) (s : State) (h : Holding t s) (c d : ℕ) (z : ℤ) {f g :
         second-in : holds (negℤ z) (clauseAt (modelIn t s) d) ≡ b
         second-in = sym (inY ∙ rw (q, P-is, Y-is))
 
-        pub resolve-complement : {r : Stepped} → not b ≡ true → r ≡ record { state = s; answer = Refused 22 } → After t s E t r
+        pub resolve-complement : {r : Stepped} → not b ≡ true → r ≡ refusedBy s 22 → After t s E t r
         resolve-complement k e = not-held (rw (second-in, not-true b k) (and-false (holds z (clauseAt (modelIn t s) c)))) e
 
         pub resolve-tested : not b ≡ false → {W : Clause} → W ≡ join (without P X) (without Q Y) → E ≡ tested (modelIn t s) W
@@ -227,8 +225,8 @@ module _ (t : Tables) (s : State) (h : Holding t s) (c : ℕ) (z : ℤ) {f : Boo
   abbrev U : Examined
   U = examine tables (modelIn t s) (reduction c z)
 
-  pub reduce-unknown : {r : Stepped} → f ≡ true → r ≡ record { state = s; answer = Refused 21 } → After t s U t r
-  reduce-unknown b e = after-refused t s h U (refusal 21) (reduction-21 tables (modelIn t s) c z (unknown-is t s h c told ∙ b)) e
+  pub reduce-unknown : {r : Stepped} → f ≡ true → r ≡ refusedBy s 21 → After t s U t r
+  reduce-unknown b e = after-refused t s h U 21 (reduction-21 tables (modelIn t s) c z (unknown-is t s h c told ∙ b)) e
 
   module _ (known : f ≡ false) {X : Clause} (isX : X ≡ stretch (entry (t .ends) (c - 1)) (entry (t .ends) c) (t .literals)) {P : ℤ} (p : P ≡ literalIn z) {a : Bool}
       (inX : a ≡ holds P X) where
@@ -238,9 +236,9 @@ module _ (t : Tables) (s : State) (h : Holding t s) (c : ℕ) (z : ℤ) {f : Boo
     literal-in-clause : holds z (clauseAt (modelIn t s) c) ≡ a
     literal-in-clause = in-clause t s h c told known C-is z (rw p at inX)
 
-    pub reduce-absent : {r : Stepped} → not a ≡ true → r ≡ record { state = s; answer = Refused 22 } → After t s U t r
+    pub reduce-absent : {r : Stepped} → not a ≡ true → r ≡ refusedBy s 22 → After t s U t r
     reduce-absent b e =
-        after-refused t s h U (refusal 22) (reduction-22 tables (modelIn t s) c z (known-is t s h c told known) (literal-in-clause ∙ not-true a b)) e
+        after-refused t s h U 22 (reduction-22 tables (modelIn t s) c z (known-is t s h c told known) (literal-in-clause ∙ not-true a b)) e
 
     module _ (held : not a ≡ false) where
       L-is : P ≡ z
@@ -257,9 +255,9 @@ module _ (t : Tables) (s : State) (h : Holding t s) (c : ℕ) (z : ℤ) {f : Boo
         kind-is : kindOf (modelIn t s) (natAbs z) ≡ k
         kind-is = sym (isK ∙ kind-told t s (h .lent) (h .formed) (natAbs P) reduce-used ∙ ap (λ (l : ℤ). kindOf (modelIn t s) (natAbs l)) L-is)
 
-        pub reduce-other : {r : Stepped} → k ≢ 1 → r ≡ record { state = s; answer = Refused 26 } → After t s U t r
+        pub reduce-other : {r : Stepped} → k ≢ 1 → r ≡ refusedBy s 26 → After t s U t r
         reduce-other b e =
-            after-refused t s h U (refusal 26) (reduction-26 tables (modelIn t s) c z (known-is t s h c told known) there (rw kind-is (ne-eqb k 1 b))) e
+            after-refused t s h U 26 (reduction-26 tables (modelIn t s) c z (known-is t s h c told known) there (rw kind-is (ne-eqb k 1 b))) e
 
         module _ (universal : k ≡ 1) {w : Set} (isW : w ≡ entry (t .sets) (natAbs P)) {n : ℕ} (isN : n ≡ s .variables .0) {b : Bool} {x : Set}
             (isSet : x ≡ clauseSetIn (take n (t .sets)) (without P X)) (isRead : b ≡ inside w x) where
@@ -280,9 +278,9 @@ module _ (t : Tables) (s : State) (h : Holding t s) (c : ℕ) (z : ℤ) {f : Boo
           read-is : reads (modelIn t s) (setOf (modelIn t s) (natAbs z)) (without z (clauseAt (modelIn t s) c)) ≡ b
           read-is = contained ∙ sym (isRead ∙ rw (w-is, x-is))
 
-          pub reduce-read : {r : Stepped} → b ≡ true → r ≡ record { state = s; answer = Refused 27 } → After t s U t r
+          pub reduce-read : {r : Stepped} → b ≡ true → r ≡ refusedBy s 27 → After t s U t r
           reduce-read q e =
-              after-refused t s h U (refusal 27) (reduction-27 tables (modelIn t s) c z (known-is t s h c told known) there (rw kind-is (eq-eqb k 1 universal)) (read-is ∙ q)) e
+              after-refused t s h U 27 (reduction-27 tables (modelIn t s) c z (known-is t s h c told known) there (rw kind-is (eq-eqb k 1 universal)) (read-is ∙ q)) e
 
           pub reduce-fitted : b ≡ false → U ≡ fitted (modelIn t s) (One (without P X))
           unfolding fitted reducing
@@ -302,8 +300,8 @@ module _ (t : Tables) (s : State) (h : Holding t s) (c left right : ℕ) {f : Bo
   abbrev K : Examined
   K = examine tables (modelIn t s) (fork c left right)
 
-  pub fork-unknown : {r : Stepped} → f ≡ true → r ≡ record { state = s; answer = Refused 21 } → After t s K t r
-  fork-unknown b e = after-refused t s h K (refusal 21) (fork-21 tables (modelIn t s) c left right (unknown-is t s h c told ∙ b)) e
+  pub fork-unknown : {r : Stepped} → f ≡ true → r ≡ refusedBy s 21 → After t s K t r
+  fork-unknown b e = after-refused t s h K 21 (fork-21 tables (modelIn t s) c left right (unknown-is t s h c told ∙ b)) e
 
   module _ (known : f ≡ false) {X : Clause} (isX : X ≡ stretch (entry (t .ends) (c - 1)) (entry (t .ends) c) (t .literals)) {a : Bool} (covered : a ≡ covers left right X) where
     X-clause : X ≡ clauseAt (modelIn t s) c
@@ -312,8 +310,8 @@ module _ (t : Tables) (s : State) (h : Holding t s) (c left right : ℕ) {f : Bo
     covers-is : covers left right (clauseAt (modelIn t s) c) ≡ a
     covers-is = sym (covered ∙ rw X-clause)
 
-    pub fork-masks : {r : Stepped} → not a ≡ true → r ≡ record { state = s; answer = Refused 28 } → After t s K t r
-    fork-masks b e = after-refused t s h K (refusal 28) (fork-28 tables (modelIn t s) c left right (known-is t s h c told known) (covers-is ∙ not-true a b)) e
+    pub fork-masks : {r : Stepped} → not a ≡ true → r ≡ refusedBy s 28 → After t s K t r
+    fork-masks b e = after-refused t s h K 28 (fork-28 tables (modelIn t s) c left right (known-is t s h c told known) (covers-is ∙ not-true a b)) e
 
     -- each part has at most 32 literals
     pub part-narrow : (mask : ℕ) → length (pick mask X) ≤ widthLimit
@@ -338,14 +336,14 @@ module _ (t : Tables) (s : State) (h : Holding t s) (c left right : ℕ) {f : Bo
       covered-whole : covers left right (clauseAt (modelIn t s) c) ≡ true
       covered-whole = covers-is ∙ not-false a whole
 
-      comparable : {r : Stepped} → (p || q) ≡ true → r ≡ record { state = s; answer = Refused 29 } → After t s K t r
+      comparable : {r : Stepped} → (p || q) ≡ true → r ≡ refusedBy s 29 → After t s K t r
       comparable b e =
-          after-refused t s h K (refusal 29) (fork-29 tables (modelIn t s) c left right (known-is t s h c told known) covered-whole (compared ∙ b)) e
+          after-refused t s h K 29 (fork-29 tables (modelIn t s) c left right (known-is t s h c told known) covered-whole (compared ∙ b)) e
 
-      pub fork-inside : {r : Stepped} → p ≡ true → r ≡ record { state = s; answer = Refused 29 } → After t s K t r
+      pub fork-inside : {r : Stepped} → p ≡ true → r ≡ refusedBy s 29 → After t s K t r
       fork-inside b e = comparable (or-left p q b) e
 
-      pub fork-around : {r : Stepped} → q ≡ true → r ≡ record { state = s; answer = Refused 29 } → After t s K t r
+      pub fork-around : {r : Stepped} → q ≡ true → r ≡ refusedBy s 29 → After t s K t r
       fork-around b e = comparable (or-right p q b) e
 
       pub fork-fitted : p ≡ false → q ≡ false → {w : Set} → w ≡ common x y

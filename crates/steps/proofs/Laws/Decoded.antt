@@ -15,9 +15,8 @@ use Rattle.records.specs.declared.Decoded.the-variants as Decoded
 use Rattle.tables.specs.Tables.{Tables, modelIn}
 use Rattle.tables.specs.declared.State.{State}
 use Rattle.additions.specs.Examined.{examined}
-use Rattle.additions.specs.Adding.{Holding, After}
+use Rattle.additions.specs.Adding.{Holding, After, refusedBy}
 use Rattle.additions.specs.declared.Stepped.{Stepped}
-use Rattle.additions.specs.declared.StepAnswer.the-variants.{Refused}
 use Rattle.additions.proofs.Laws.Adding.{after-refused}
 
 -- a decoded record is the calculus'
@@ -30,9 +29,9 @@ unfolding examineBytes examineOr20 decodedIn
 decoded-malformed m bytes e q = rw (← e, q)
 
 module _ (t : Tables) (s : State) (h : Holding t s) (bytes : List ℕ) {d : Decoded} (read : decodedIn d ≡ recordOf bytes) where
-  pub bytes-malformed : {r : Stepped} → d ≡ Decoded.Malformed → r ≡ record { state = s; answer = Refused 20 } → After t s (examineBytes tables (modelIn t s) bytes) t r
-  bytes-malformed q e = after-refused t s h (examineBytes tables (modelIn t s) bytes) (refusal 20) (decoded-malformed (modelIn t s) bytes read q) e
+  pub bytes-malformed : {r : Stepped} → d ≡ Decoded.Malformed → r ≡ refusedBy s 20 → After t s (examineBytes tables (modelIn t s) bytes) t r
+  bytes-malformed q e = after-refused t s h (examineBytes tables (modelIn t s) bytes) 20 (decoded-malformed (modelIn t s) bytes read q) e
 
-  pub bytes-examined : (x : Step) {t′ : Tables} {r : Stepped} → d ≡ Decoded.Step x → After t s (examine tables (modelIn t s) (stepIn x)) t′ r
+  pub bytes-examined : (x : Step) {t′ : Tables} (r : Stepped) → d ≡ Decoded.Step x → After t s (examine tables (modelIn t s) (stepIn x)) t′ r
       → After t s (examineBytes tables (modelIn t s) bytes) t′ r
-  bytes-examined x q e = e ∙ ap (examined t (modelIn t s)) (sym (decoded-step (modelIn t s) bytes x read q))
+  bytes-examined x r q e = e ∙ ap (examined t (modelIn t s)) (sym (decoded-step (modelIn t s) bytes x read q))

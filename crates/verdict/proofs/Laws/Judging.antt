@@ -1,11 +1,10 @@
 -- A load and a run to the line (specs/Judging.antt): one law for a refused text, one for a run.
 use mathlib.Core.Path.{_≡_, refl, sym, _∙_, ap}
-use mathlib.Core.Bool.{Bool, true, false, cond, not}
-use mathlib.Core.List.{List, [], _∷_}
+use mathlib.Core.Bool.{Bool, true, false}
+use mathlib.Core.List.{List}
 use Prim.Native.Nat.{ℕ}
 use native.Mathlib.Omega.{arith}
 use Rattle.dqbf.specs.Limits as Limits
-use Rattle.dqbf.specs.Refusal.{Refusal, refusal}
 use Rattle.dqbf.specs.Formula.{Formula}
 use Rattle.dqbf.specs.Reading.{accepted, refused, load}
 use Rattle.dqbf.specs.Reading as Reading
@@ -14,31 +13,22 @@ use Rattle.dqbf.specs.Valid.{Valid}
 use Rattle.dqbf.specs.Run as Run
 use Rattle.dqbf.specs.Line.{verdictLine, formulaLine, printed, program}
 use Rattle.dqbf.proofs.LoadValid.{load-valid}
-use Rattle.tables.specs.Tables.{Tables, modelIn}
-use Rattle.tables.specs.Spread.{spread, stateOf, blank}
-use Rattle.tables.specs.WellFormed.{long, wellFormed}
+use Rattle.tables.specs.Tables.{Tables}
+use Rattle.tables.specs.Spread.{spread, stateOf}
+use Rattle.tables.specs.WellFormed.{long}
 use Rattle.tables.specs.declared.State.{State}
 use Rattle.tables.proofs.Laws.Spread.{model-back, formed-spread, long-spread}
 use Rattle.tables.proofs.Refinement.{last-counts}
 use Rattle.dqdimacs.specs.Loading.{AfterLoad, loadAnswer, loadedModel, loadedOn, loadShort, loadOf}
 use Rattle.dqdimacs.specs.declared.LoadAnswer.{LoadAnswer}
 use Rattle.dqdimacs.specs.declared.LoadAnswer.the-variants as LoadAnswer
-use Rattle.steps.specs.Steps.{runAnswer, AfterRun, ranOn, runOf}
+use Rattle.steps.specs.Steps.{runTold, AfterRun, ranOn, runOf}
 use Rattle.steps.specs.declared.RunAnswer.{RunAnswer}
 use Rattle.lines.specs.Lines.{lineOf, written, withLine}
-use Rattle.verdict.specs.Judging.{toldBy, judgedLine, judgedModel, judgedTables}
+use Rattle.verdict.specs.Judging.{judgedLine, judgedModel, judgedTables}
 use Rattle.lines.specs.declared.line.Verdict.{Verdict}
 use Rattle.lines.specs.declared.line.Verdict.the-variants as Verdict
 use Rattle.lines.specs.declared.line.Written.{Written}
-use Rattle.verdict.proofs.Laws.Values.{badValues, run-values}
-
--- ---- a verdict of the calculus, told by the code's enums
-
-told-line : (v : Run.Verdict) → badValues v ≡ [] → lineOf (toldBy (runAnswer v)) ≡ verdictLine v
-unfolding badValues lineOf toldBy runAnswer
-told-line (Run.refuted s k) h = refl
-told-line (Run.open′ s) h = refl
-told-line (Run.bad s x) h = ap (λ (values : List ℕ). verdictLine (Run.bad s (record { number = x .number; values = values }))) (sym h)
 
 -- ---- the load's outcomes
 
@@ -126,26 +116,26 @@ run-spread : (m : Model) → Valid Limits.tables m → (t : Tables) → long t �
 unfolding runOf
 run-spread m v t lent records = rw (long-spread m v t lent, formed-spread m v t, model-back m v t) refl
 
-abbrev Running : Tables → State → List ℕ → Tables → State → RunAnswer → Type 0
-Running t s records t₂ s₂ a = _≡_ {A = AfterRun} (record { tables = t₂; state = s₂; answer = a }) (runOf t s records)
+abbrev Running : Tables → State → List ℕ → Tables → State → Run.Verdict → Type 0
+Running t s records t₂ s₂ v = _≡_ {A = AfterRun} (record { tables = t₂; state = s₂; answer = v }) (runOf t s records)
 
 -- the run behind an accepted load
-run-loaded : (t : Tables) (records : List ℕ) (φ : Formula) → Valid Limits.tables (modelOf φ) → long t ≡ true → {t₁ t₂ : Tables} {s s₂ : State} {a : RunAnswer}
-    → t₁ ≡ spread (modelOf φ) t → s ≡ stateOf (modelOf φ) → Running t₁ s records t₂ s₂ a
-    → (lineOf (toldBy a) ≡ printed (accepted φ) records) × (t₂ ≡ spread (judgedModel (accepted φ) records) t)
+run-loaded : (t : Tables) (records : List ℕ) (φ : Formula) → Valid Limits.tables (modelOf φ) → long t ≡ true → {t₁ t₂ : Tables} {s s₂ : State} {w : Run.Verdict}
+    → t₁ ≡ spread (modelOf φ) t → s ≡ stateOf (modelOf φ) → Running t₁ s records t₂ s₂ w
+    → (verdictLine w ≡ printed (accepted φ) records) × (t₂ ≡ spread (judgedModel (accepted φ) records) t)
 unfolding ranOn printed judgedModel
-run-loaded t records φ v lent {t₁} {t₂} {s} {s₂} {a} p q e =
-    let over : Running (spread (modelOf φ) t) (stateOf (modelOf φ)) records t₂ s₂ a = rw (p, q) at e in
+run-loaded t records φ v lent {t₁} {t₂} {s} {s₂} {w} p q e =
+    let over : Running (spread (modelOf φ) t) (stateOf (modelOf φ)) records t₂ s₂ w = rw (p, q) at e in
     let whole = over ∙ run-spread (modelOf φ) v t lent records in
     let ran = Run.run Limits.tables (modelOf φ) records in (
-      ap (λ (x : AfterRun). lineOf (toldBy (x .answer))) whole ∙ told-line (ran .verdict) (run-values Limits.tables (modelOf φ) records),
+      ap (λ (x : AfterRun). verdictLine (x .answer)) whole,
       ap (λ (x : AfterRun). x .tables) whole ∙ last-counts (modelOf φ) v t .0 (ran .model),
     )
 
 -- a text that is accepted, and its run
-pub judged-ran : (t : Tables) (text records : List ℕ) {t₁ t₂ : Tables} {s s₂ : State} {l : LoadAnswer} {a : RunAnswer} → Loading t text t₁ s l → l ≡ LoadAnswer.Accepted
-    → Running t₁ s records t₂ s₂ a → (lineOf (toldBy a) ≡ judgedLine t text records) × (t₂ ≡ judgedTables t text records)
-judged-ran t text records {t₁} {t₂} {s} {s₂} {l} {a} e q r =
+pub judged-ran : (t : Tables) (text records : List ℕ) {t₁ t₂ : Tables} {s s₂ : State} {l : LoadAnswer} {w : Run.Verdict} → Loading t text t₁ s l → l ≡ LoadAnswer.Accepted
+    → Running t₁ s records t₂ s₂ w → (verdictLine w ≡ judgedLine t text records) × (t₂ ≡ judgedTables t text records)
+judged-ran t text records {t₁} {t₂} {s} {s₂} {l} {w} e q r =
     let e′ : Loading t text t₁ s LoadAnswer.Accepted = rw q at e in
     let lent = accepted-lent t text (long t) refl e′ in
     let (φ, reads, p, h) = accepted-on t text records t₁ (load text) s (e′ ∙ load-is t text lent) in
@@ -155,8 +145,8 @@ judged-ran t text records {t₁} {t₂} {s} {s₂} {l} {a} e q r =
     )
 
 -- the same of a verdict that is told
-pub ran-told : (a : RunAnswer) (v : Verdict) {L : List ℕ} {P : Type 0} → (lineOf (toldBy a) ≡ L) × P → v ≡ toldBy a → (lineOf v ≡ L) × P
-ran-told a v h e = (ap lineOf e ∙ h .0, h .1)
+pub ran-told : (a : RunAnswer) (v : Verdict) {L : List ℕ} {P : Type 0} → (verdictLine (runTold a) ≡ L) × P → lineOf v ≡ verdictLine (runTold a) → (lineOf v ≡ L) × P
+ran-told a v h e = (e ∙ h .0, h .1)
 
 -- a line that is written
 pub line-written : (v : Verdict) {w : Written} (L out : List ℕ) {out′ : List ℕ} {P : Type 0} → (lineOf v ≡ L) × P → (w ≡ written (lineOf v) out) × (out′ ≡ withLine (lineOf v) out)

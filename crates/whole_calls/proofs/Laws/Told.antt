@@ -15,7 +15,7 @@ use Rattle.tables.specs.declared.State.{State}
 use Rattle.tables.specs.Spread as Spread
 use Rattle.dqdimacs.specs.Loading.{AfterLoad, loadedOn, loadOf}
 use Rattle.dqdimacs.specs.declared.Loaded.{Loaded}
-use Rattle.steps.specs.Steps.{AfterRun, runOf}
+use Rattle.steps.specs.Steps.{runTold, AfterRun, runOf}
 use Rattle.steps.specs.declared.Ran.{Ran}
 use Rattle.formula_text.specs.Writing.{TextAnswer, AfterWrite, writeOf}
 use Rattle.codec.specs.Bytes.{entries, bytesOf, literalsIn, literalBytes, over}
@@ -31,9 +31,9 @@ use Rattle.exports.specs.Calls.{After, loaded, ran, AfterWriteBytes, wrote}
 module _ (b : Buffers) (records : List ℕ) where
   pub run-told : {l : List ℤ} {e w : List ℕ} {s : State} → l ≡ literalsIn literalLimit (b .literals) → e ≡ entries 2 clauseLimit (b .ends) → w ≡ entries 8 variableLimit (b .sets)
       → s ≡ Codec.stateIn (b .state) → (t : Tables) (r : Ran)
-      → _≡_ {A = AfterRun} (record { tables = t; state = r .state; answer = r .answer }) (runOf (tablesOf l e w (b .kinds)) s records)
+      → _≡_ {A = AfterRun} (record { tables = t; state = r .state; answer = runTold (r .answer) }) (runOf (tablesOf l e w (b .kinds)) s records)
       → {literals ends sets state : List ℕ} → literals ≡ over (literalBytes (t .literals)) (b .literals) → ends ≡ over (bytesOf 2 (t .ends)) (b .ends)
-      → sets ≡ over (bytesOf 8 (t .sets)) (b .sets) → state ≡ over (stateBytes (r .state)) (b .state) → {n : ℕ} → n ≡ runResult (r .answer)
+      → sets ≡ over (bytesOf 8 (t .sets)) (b .sets) → state ≡ over (stateBytes (r .state)) (b .state) → {n : ℕ} → n ≡ runResult (runTold (r .answer))
       → _≡_ {A = After} (record { buffers = buffersOf literals ends sets (t .kinds) state; result = n }) (ran b (runOf (tablesIn b) (stateIn b) records))
   unfolding tablesIn stateIn ran written
   run-told p q u v t r told lw ew sw tw nw = rw (lw, ew, sw, tw, nw) (ap (ran b) (rw (p, q, u, v) at told))

@@ -8,7 +8,7 @@ use Rattle.additions.proofs.adding.add_resolvent.Statement.{statement}
 use Rattle.additions.proofs.adding.add_resolvent.Tie as tie
 use Rattle.additions.proofs.adding.add_resolvent.Reads as reads
 use Rattle.additions.proofs.adding.add_resolvent.Lts as lts
-use Rattle.additions.proofs.adding.refused.Reads as refused-reads
+use Rattle.additions.proofs.adding.refused_resolvent.Reads as refused-resolvent-reads
 use Rattle.additions.proofs.adding.write_resolvent.Reads as write-resolvent-reads
 use Rattle.tables.proofs.adding.add_clause.Reads as add-clause-reads
 
@@ -30,24 +30,34 @@ part-write-resolvent-end c = omega (arith, long-is _ (c .before .before .before 
 write-resolvent-requires : tie.Need-write-resolvent-requires
 write-resolvent-requires c κs = zero-tail _ _ (c .before .before .before .before .before .pre)
 
-refused-requires : tie.Need-refused-requires
-refused-requires c κs = search needs
+refused-resolvent-requires : tie.Need-refused-resolvent-requires
+refused-resolvent-requires c κs = search needs
 
 same-length : tie.Need-same-length
 same-length c = search needs
 
 returns : tie.Need-returns
-returns c = resolvent-refused _ _ (c .before .before .before .before .before .before .before .before .before .before .pre) (join (c .before .before .before .before .before .before .before .before .before .before .args .first .now) (c .before .before .before .before .before .before .before .before .before .before .args .second .now)) (c .before .before .before .before .write-resolvent .ensures .number) (c .before .before .before .before .write-resolvent .ensures .left) (c .before .if1 .taken) (c .refused .ensures)
+returns c =
+    let start = c .before .before .before .before .before .before .before .before .before .before in
+    let written = c .before .before .before .before .write-resolvent .ensures in
+    let clause = join (start .args .first .now) (start .args .second .now) in
+    resolvent-refused _ _ (start .pre) clause (written .number) (written .left) (written .lowest) (c .before .if1 .taken) (c .refused-resolvent .ensures)
 
 cast-add-clause : tie.Need-cast-add-clause
 cast-add-clause c =
-    let fits = resolvent-fits _ _ (c .before .before .before .before .before .before .before .before .before .before .before .pre) (join (c .before .before .before .before .before .before .before .before .before .before .before .args .first .now) (c .before .before .before .before .before .before .before .before .before .before .before .args .second .now)) (c .before .before .before .before .before .write-resolvent .ensures .number) (c .before .before .if1 .left) in
-    omega (arith, fits .0, c .before .before .before .before .before .write-resolvent .ensures .count)
+    let start = c .before .before .before .before .before .before .before .before .before .before .before in
+    let written = c .before .before .before .before .before .write-resolvent .ensures in
+    let clause = join (start .args .first .now) (start .args .second .now) in
+    let fits = resolvent-fits _ _ (start .pre) clause (written .number) (c .before .before .if1 .left) in
+    omega (arith, fits .0, written .count)
 
 add-clause-requires : tie.Need-add-clause-requires
 add-clause-requires c κs =
-    let fits = resolvent-fits _ _ (c .before .before .before .before .before .before .before .before .before .before .before .pre) (join (c .before .before .before .before .before .before .before .before .before .before .before .args .first .now) (c .before .before .before .before .before .before .before .before .before .before .before .args .second .now)) (c .before .before .before .before .before .write-resolvent .ensures .number) (c .before .before .if1 .left) in
-    one-asked _ _ (c .before .before .before .before .before .before .before .before .before .before .before .pre) _ (join (c .before .before .before .before .before .before .before .before .before .before .before .args .first .now) (c .before .before .before .before .before .before .before .before .before .before .before .args .second .now)) refl refl refl (fits .1) (c .before .before .before .before .before .write-resolvent .ensures .count)
+    let start = c .before .before .before .before .before .before .before .before .before .before .before in
+    let written = c .before .before .before .before .before .write-resolvent .ensures in
+    let clause = join (start .args .first .now) (start .args .second .now) in
+    let fits = resolvent-fits _ _ (start .pre) clause (written .number) (c .before .before .if1 .left) in
+    one-asked _ _ (start .pre) _ clause refl refl refl (fits .1) (written .count)
 
 same-length-2 : tie.Need-same-length-2
 same-length-2 c = search needs
@@ -57,10 +67,15 @@ same-length-3 c = search needs
 
 returns-2 : tie.Need-returns-2
 returns-2 c =
-    let fits = resolvent-fits _ _ (c .before .before .before .before .before .before .before .before .before .before .before .before .before .before .pre) (join (c .before .before .before .before .before .before .before .before .before .before .before .before .before .before .args .first .now) (c .before .before .before .before .before .before .before .before .before .before .before .before .before .before .args .second .now)) (c .before .before .before .before .before .before .before .before .write-resolvent .ensures .number) (c .before .before .before .before .before .if1 .left) in
-    let is = resolvent-fitted _ _ (c .before .before .before .before .before .before .before .before .before .before .before .before .before .before .pre) (join (c .before .before .before .before .before .before .before .before .before .before .before .before .before .before .args .first .now) (c .before .before .before .before .before .before .before .before .before .before .before .before .before .before .args .second .now)) (c .before .before .before .before .before .before .before .before .write-resolvent .ensures .number) (c .before .before .before .before .before .if1 .left) in
-    let literals = resolvent-stored _ _ (c .before .before .before .before .before .before .before .before .before .before .before .before .before .before .pre) (join (c .before .before .before .before .before .before .before .before .before .before .before .before .before .before .args .first .now) (c .before .before .before .before .before .before .before .before .before .before .before .before .before .before .args .second .now)) (c .before .before .before .before .before .before .before .before .write-resolvent .ensures .number) (c .before .before .before .before .before .before .before .before .write-resolvent .ensures .left) (c .before .before .before .before .before .if1 .left) (fits .2) in
-    one-added _ _ (c .before .before .before .before .before .before .before .before .before .before .before .before .before .before .pre) _ (join (c .before .before .before .before .before .before .before .before .before .before .before .before .before .before .args .first .now) (c .before .before .before .before .before .before .before .before .before .before .before .before .before .before .args .second .now)) is refl refl (fits .1) (c .before .before .before .before .before .before .before .before .write-resolvent .ensures .count) literals (c .before .before .add-clause .ensures .1) (c .before .before .add-clause .ensures .0)
+    let start = c .before .before .before .before .before .before .before .before .before .before .before .before .before .before in
+    let written = c .before .before .before .before .before .before .before .before .write-resolvent .ensures in
+    let clause = join (start .args .first .now) (start .args .second .now) in
+    let zero = c .before .before .before .before .before .if1 .left in
+    let fits = resolvent-fits _ _ (start .pre) clause (written .number) zero in
+    let is = resolvent-fitted _ _ (start .pre) clause (written .number) zero in
+    let literals = resolvent-stored _ _ (start .pre) clause (written .number) (written .left) zero (fits .2) in
+    let ended = c .before .before .add-clause .ensures in
+    one-added _ _ (start .pre) _ clause is refl refl (fits .1) (written .count) literals (ended .1) (ended .0)
 
 pub add-resolvent-spec : {M : Type 1} → statement M
 add-resolvent-spec =
@@ -72,7 +87,7 @@ add-resolvent-spec =
     part-write-resolvent-start
     part-write-resolvent-end
     write-resolvent-requires
-    refused-requires
+    refused-resolvent-requires
     same-length
     returns
     cast-add-clause

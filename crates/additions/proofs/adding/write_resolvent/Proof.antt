@@ -25,10 +25,16 @@ same-length c = search needs
 
 returns : tie.Need-returns
 returns c =
+    let args = c .before .before .before .before .before .before .before .before .args in
+    let pre = c .before .before .before .before .before .before .before .before .pre in
+    let joined = c .before .before .before .before .before .before .write-join .ensures in
+    let number = c .before .before .before .before .number-of in
     record {
-      count = c .before .before .before .before .before .before .write-join .ensures .count;
-      number = rw (c .before .before .before .before .before .before .write-join .ensures .count, c .before .before .before .before .before .before .write-join .ensures .clashes) at (c .before .before .before .before .number-of .ensures);
-      left = rw (ne-eqb (c .before .before .before .before .number-of .result) 0 (c .before .before .before .if1 .taken)) (overlaid-erased (pos 0) (join (c .before .before .before .before .before .before .before .before .args .first .now) (c .before .before .before .before .before .before .before .before .args .second .now)) (c .before .before .before .before .before .before .before .before .args .tail .now) (c .before .before .before .before .before .before .before .before .pre) (c .before .before .before .before .before .before .write-join .ensures .count) (c .before .before .before .before .before .before .write-join .ensures .left) (c .before .erase .ensures));
+      count = joined .count;
+      number = rw (joined .count, joined .clashes) at (number .ensures);
+      lowest = joined .lowest;
+      left = rw (ne-eqb (number .result) 0 (c .before .before .before .if1 .taken))
+          (overlaid-erased (pos 0) (join (args .first .now) (args .second .now)) (args .tail .now) pre (joined .count) (joined .left) (c .before .erase .ensures));
     }
 
 same-length-2 : tie.Need-same-length-2
@@ -36,10 +42,13 @@ same-length-2 c = search needs
 
 returns-2 : tie.Need-returns-2
 returns-2 c =
+    let joined = c .before .before .before .write-join .ensures in
+    let number = c .before .number-of in
     record {
-      count = c .before .before .before .write-join .ensures .count;
-      number = rw (c .before .before .before .write-join .ensures .count, c .before .before .before .write-join .ensures .clashes) at (c .before .number-of .ensures);
-      left = rw (eq-eqb (c .before .number-of .result) 0 (c .if1 .left)) (c .before .before .before .write-join .ensures .left);
+      count = joined .count;
+      number = rw (joined .count, joined .clashes) at (number .ensures);
+      lowest = joined .lowest;
+      left = rw (eq-eqb (number .result) 0 (c .if1 .left)) (joined .left);
     }
 
 pub write-resolvent-spec : {M : Type 1} → statement M

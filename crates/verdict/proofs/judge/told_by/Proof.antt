@@ -1,6 +1,9 @@
 -- `judge::told_by`: each case is told by its own.
 use mathlib.Core.Path.{sym, ap}
-use Rattle.verdict.specs.Judging.{toldBy}
+use Rattle.dqbf.specs.Line.{verdictLine}
+use Rattle.steps.specs.Steps.{runTold}
+use Rattle.steps.specs.declared.RunAnswer.{RunAnswer}
+use Rattle.lines.specs.Lines.{lineOf}
 use borrow.Author.Needs.{needs}
 use Rattle.verdict.proofs.judge.told_by.Statement.{statement}
 use Rattle.verdict.proofs.judge.told_by.Tie as tie
@@ -17,16 +20,16 @@ enum-known-answer-3 : tie.Need-enum-known-answer-3
 enum-known-answer-3 c = search needs
 
 returns : tie.Need-returns
-unfolding toldBy
-returns c = sym (ap toldBy (c .before .answer .given .1))
+unfolding runTold lineOf
+returns c = sym (ap (λ (a : RunAnswer). verdictLine (runTold a)) (c .before .answer .given .1))
 
 returns-2 : tie.Need-returns-2
-unfolding toldBy
-returns-2 c = sym (ap toldBy (c .before .answer2 .given .1))
+unfolding runTold lineOf
+returns-2 c = sym (ap (λ (a : RunAnswer). verdictLine (runTold a)) (c .before .answer2 .given .1))
 
 returns-3 : tie.Need-returns-3
-unfolding toldBy
-returns-3 c = sym (ap toldBy (c .before .answer3 .given .1))
+unfolding runTold lineOf
+returns-3 c = sym (ap (λ (a : RunAnswer). verdictLine (runTold a)) (c .before .answer3 .given .1))
 
 pub told-by-spec : {M : Type 1} → statement M
 told-by-spec =
