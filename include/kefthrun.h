@@ -56,7 +56,7 @@ enum {
     KEFTHRUN_NOT_IN_CLAUSE = 22,              /* the literal, or the complement, is not in its clause */
     KEFTHRUN_UNKNOWN_VARIABLE = 22,           /* a question about a variable that is not in use */
     KEFTHRUN_COMPLEMENTARY_IN_RESOLVENT = 23, /* the resolvent has complementary literals; the third value is their lowest variable */
-    KEFTHRUN_TOO_WIDE = 24,                   /* the resolvent has more than 32 literals */
+    KEFTHRUN_TOO_WIDE = 24,                   /* the resolvent has more than 32 literals, none of them complementary */
     KEFTHRUN_NO_ROOM = 25,                    /* no room for more clauses, literals or variables */
     KEFTHRUN_NOT_UNIVERSAL = 26,              /* the literal is not universal */
     KEFTHRUN_READ_BY_ANOTHER = 27,            /* another literal's set has the variable */

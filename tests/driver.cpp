@@ -167,10 +167,10 @@ static void texts() {
     not_written(b, KEFTHRUN_NOT_WELL_FORMED);
 }
 
-// Resolutions of clauses 1 and 2 on a literal: the lowest variable that the resolvent holds in both signs.
-static void clash(Buffers &b, uint32_t pivot, unsigned variable) {
+// Resolutions of clause 1 and another one on a literal: the lowest variable that the resolvent holds in both signs.
+static void clash(Buffers &b, uint32_t pivot, unsigned variable, uint32_t second = 2) {
     const std::vector<std::vector<uint8_t>> before = b.bytes();
-    const uint64_t told = b.run(record(1, 1, 2, pivot));
+    const uint64_t told = b.run(record(1, 1, second, pivot));
     expect("23 with its variable", told == packed(3, 1, KEFTHRUN_COMPLEMENTARY_IN_RESOLVENT, variable));
     expect("the variable is the last field", kefthrun_third(told) == variable);
     expect("a clash changes nothing", b.bytes() == before && b.guards_stand());
@@ -187,10 +187,15 @@ static void clashes() {
     expect("a high variable", b.load("p cnf 512 2\na 511 0\ne 512 0\n511 512 0\n-511 -512 0\n") == packed(1, 0, 0));
     clash(b, 511, 512);
     clash(b, 512, 511);
-    const std::string wide = "p cnf 40 3\ne " + numbers(1, 40) + "0\n" + numbers(1, 31) + "40 0\n-31 -40 0\n-31 32 -40 0\n";
-    expect("31 and a pair", b.load(wide) == packed(1, 0, 0));
-    clash(b, 40, 31);
-    expect("33 literals and a pair", b.run(record(1, 1, 3, 40)) == packed(3, 1, KEFTHRUN_TOO_WIDE));
+    const std::string pairs = "-31 -40 0\n-31 32 -40 0\n-31 -40 " + numbers(41, 70) + "0\n", none = "-40 " + numbers(32, 33) + "0\n";
+    const std::string wide = "p cnf 70 5\ne " + numbers(1, 70) + "0\n" + numbers(1, 31) + "40 0\n" + pairs + none;
+    expect("wide clauses", b.load(wide) == packed(1, 0, 0));
+    clash(b, 40, 31);    // 32 literals
+    clash(b, 40, 31, 3); // 33 literals
+    clash(b, 40, 31, 4); // 62 literals
+    const std::vector<std::vector<uint8_t>> before = b.bytes();
+    expect("33 literals and no pair", b.run(record(1, 1, 5, 40)) == packed(3, 1, KEFTHRUN_TOO_WIDE));
+    expect("a wide resolvent changes nothing", b.bytes() == before && b.guards_stand());
     expect("the listing", b.load(formula) == packed(1, 0, 0) && b.run(listing()) == packed(1, 3, 5));
     clash(b, 1, 2);
     clash(b, 2, 1);

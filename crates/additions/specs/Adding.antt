@@ -1,4 +1,4 @@
--- What the last tests of a step leave: width and clash of a resolvent, and room (document 01, "Numbers of refusal": 24, 23, 25).
+-- What the last tests of a step leave: clash and width of a resolvent, and room (document 01, "Numbers of refusal": 23, 24, 25, in the order of document 02, Note 5).
 --     Holding                        the tables are long enough and well formed
 --     After                          what a step leaves of them
 --     refusedBy                      refused with a number alone
@@ -64,14 +64,14 @@ pub record Splits (C : Clause) (r : Split) : Type 0 where
 unfoldable pub fitted : Model → Addition → Examined
 fitted m a = cond (noRoom tables m a) (refuses (refusal 25)) (accepts a)
 
--- 24 and 23 of a resolvent, then 25
+-- 23 and 24 of a resolvent, then 25
 unfoldable pub tested : Model → Clause → Examined
 tested m C =
-    cond (ltb widthLimit (length C)) (refuses (refusal 24)) (cond (clashes C) (refuses (naming 23 (lowestClash C))) (fitted m (One C)))
+    cond (clashes C) (refuses (naming 23 (lowestClash C))) (cond (ltb widthLimit (length C)) (refuses (refusal 24)) (fitted m (One C)))
 
 -- the same tests by width and clash, as the code makes them: the number of refusal, 0 for none
 unfoldable pub refusalNumber : State → ℕ → Bool → ℕ
-refusalNumber s width clash = cond (ltb widthLimit width) 24 (cond clash 23 (cond (full s 1 width 0) 25 0))
+refusalNumber s width clash = cond clash 23 (cond (ltb widthLimit width) 24 (cond (full s 1 width 0) 25 0))
 
 -- 23 with the variable, another number alone
 unfoldable pub refusalFor : (number variable : ℕ) → Code.Refusal

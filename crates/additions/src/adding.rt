@@ -30,15 +30,15 @@ pub fn refused(state: State, number: u16) -> Stepped
     Stepped { state, answer }
 }
 
-// The number that refuses a joined clause as a resolvent: its width, complementary literals, room; 0 where none does.
+// The number that refuses a joined clause as a resolvent: complementary literals, its width, room; 0 where none does.
 fn number_of(joined: Joined, state: State) -> u16
     ensures { λ r. ⌜ r ≡ refusalNumber state (joined .count) (joined .clashes) ⌝ }
 {
-    if joined.count > WIDTH_LIMIT {
-        return refusal::TOO_WIDE;
-    }
     if joined.clashes {
         return refusal::COMPLEMENTARY;
+    }
+    if joined.count > WIDTH_LIMIT {
+        return refusal::TOO_WIDE;
     }
     if adding::is_full(state, 1, joined.count as u32, 0) {
         return refusal::NO_ROOM;

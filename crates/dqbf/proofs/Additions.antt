@@ -7,8 +7,8 @@ use Rattle.dqbf.specs.Refusal.{Refusal}
 use Rattle.dqbf.specs.Literal.{pick}
 use Rattle.dqbf.specs.Model.{Model, steps, clauseSet}
 use Rattle.dqbf.specs.Record.{Record, resolution, reduction, fork}
-use Rattle.dqbf.specs.Rules.{Addition, add, resolving, reducing, forking, added, tests, clauseAt, forkTests, ruleTests}
-use Rattle.dqbf.specs.Run.{examine}
+use Rattle.dqbf.specs.Rules.{Addition, add, resolving, reducing, forking, added, tests, testsBy, clauseAt, forkTests, ruleTestsBy}
+use Rattle.dqbf.specs.Run.{examineBy}
 use Rattle.dqbf.specs.Statements.Additions.{Additions, ForkNarrow}
 use Rattle.dqbf.specs.Set.{inside}
 use Rattle.dqbf.specs.Cases.{left, right}
@@ -29,7 +29,7 @@ unfolding steps add
 steps-add m a h e = omega (arith, length-append (m .derived) (a .clauses), length-append (m .forks) (a .forks))
 
 pub additions : Additions
-unfolding add examine
+unfolding add examineBy
 additions room m v r a h =
     let e = judged-is (Refusal.first (tests room m r)) (added m r) a h .1 in
     let one : length (a .clauses) ≡ suc (length (a .forks)) = rw e at (added-one m r) in
@@ -46,7 +46,7 @@ additions room m v r a h =
     }
 
 pub fork-narrow : ForkNarrow
-unfolding examine tests ruleTests forkTests
+unfolding examineBy testsBy ruleTestsBy forkTests
 fork-narrow room m v c left right a h =
     let C = clauseAt m c in
     let L = clauseSet m (pick left C) in

@@ -15,26 +15,17 @@ use Rattle.dqbf.specs.Literal.{Clause, _∈_, clashes, lowestClash}
 use Rattle.dqbf.specs.Model.{Model, used}
 use Rattle.dqbf.specs.Valid.{Valid}
 use Rattle.dqbf.specs.Record.{Record, resolution, reduction, fork, recordOf, stretches}
-use Rattle.dqbf.specs.Rules.{Addition, clauseAt, unknown, resolvent, resolutionTests, reductionTests, forkTests, ruleTests, added, tests}
-use Rattle.dqbf.specs.Run.{refuses, judged, examine, examineOr20, examineBytes, bad, Ran, runFrom, run, runCall, next}
+use Rattle.dqbf.specs.Rules.{clauseAt, unknown, resolvent, resolutionTest, resolutionOrder, resolutionTestsBy, reductionTests, forkTests, ruleTestsBy, added, tests, testsBy}
+use Rattle.dqbf.specs.Run.{refuses, examineBy, examineOr20, examineOr20By, examineBytesBy, bad, Ran, runFrom, runBy, runCall, nextBy}
 use Rattle.dqbf.specs.Statements.ClashingVariable.{Named, ClashingVariable, RunNamed}
-use Rattle.dqbf.proofs.Laws.Tests.{eqb-same}
-use Rattle.dqbf.proofs.Laws.Order.{resolvent-order}
+use Rattle.dqbf.proofs.Laws.Tests.{eqb-same, some-is}
 use Rattle.dqbf.proofs.Laws.Clashes.{clash-lowest}
-use Rattle.dqbf.proofs.Laws.Models.{there, in-use}
+use Rattle.dqbf.proofs.Laws.Models.{refused-first, there, in-use, resolvent-in-order}
 use Rattle.dqbf.proofs.Laws.Clauses.{resolvent-is}
 use Rattle.dqbf.proofs.Laws.Stopping.{stopped-at}
 use Rattle.dqbf.proofs.StepsKeepValid.{call-keeps}
 
 -- ---- the first test that applies
-
-refused-first : (o : Option Refusal) (a : Addition) (x : Refusal) → judged o a ≡ refuses x → o ≡ some x
-unfolding judged
-refused-first none a x h = absurd (let z : _≡_ {A = ℕ} 0 1 = cc in omega arith)
-refused-first (some y) a x h = cc
-
-some-is : (y x : Refusal) → some y ≡ some x → y ≡ x
-some-is y x h = cc
 
 -- what holds of the refusal of each test, where those before it did not apply, holds of the first that applies
 module _ (P : Refusal → Type 0) where
@@ -78,10 +69,9 @@ module _ (room : Room) (m : Model) (v : Valid room m) (bytes : List ℕ) where
         go (inl h) = clause-used c known l (h .0)
         go (inr h) = clause-used d known′ l (h .0)
 
-    resolvent-named : recordOf bytes ≡ some (resolution c d p) → clashes E ≡ true → N (naming 23 (lowestClash E))
+    pub resolvent-named : recordOf bytes ≡ some (resolution c d p) → clashes E ≡ true → N (naming 23 (lowestClash E))
     resolvent-named says h =
-        let order = resolvent-order (clauseAt m c) (clauseAt m d) p (v .kept (clauseAt m c) (there m c known) .ascends) (v .kept (clauseAt m d) (there m d known′) .ascends) in
-        let lowest = clash-lowest E order .0 h in
+        let lowest = clash-lowest E (resolvent-in-order room m v c d p known known′) .0 h in
         record {
           clashing = λ e. record {
             first = c;
@@ -97,27 +87,27 @@ module _ (room : Room) (m : Model) (v : Valid room m) (bytes : List ℕ) where
         }
 
   all-named : (r : Record) → recordOf bytes ≡ some r → All N (tests room m r)
-  unfolding tests ruleTests resolutionTests reductionTests forkTests
+  unfolding testsBy ruleTestsBy resolutionTestsBy resolutionTest resolutionOrder reductionTests forkTests
   all-named (resolution c d p) h =
       all-cons N (refusal 21) _ _ (λ e. plain-named 21 refl)
       (λ k. all-cons N (refusal 21) _ _ (λ e. plain-named 21 refl)
-      (λ k′. skip-plain 22 refl _ _ (skip-plain 24 refl _ _ (all-cons N (naming 23 (lowestClash (resolvent (clauseAt m c) (clauseAt m d) p))) _ _ (resolvent-named c d p k k′ h) (λ e. skip-plain 25 refl _ _ (all-nil N))))))
+      (λ k′. skip-plain 22 refl _ _ (all-cons N (naming 23 (lowestClash (resolvent (clauseAt m c) (clauseAt m d) p))) _ _ (resolvent-named c d p k k′ h) (λ e. skip-plain 24 refl _ _ (skip-plain 25 refl _ _ (all-nil N))))))
   all-named (reduction c l) h = skip-plain 21 refl _ _ (skip-plain 22 refl _ _ (skip-plain 26 refl _ _ (skip-plain 27 refl _ _ (skip-plain 25 refl _ _ (all-nil N)))))
   all-named (fork c a b) h = skip-plain 21 refl _ _ (skip-plain 28 refl _ _ (skip-plain 29 refl _ _ (skip-plain 25 refl _ _ (all-nil N))))
 
   read-named : (o : Option Record) → recordOf bytes ≡ o → (x : Refusal) → examineOr20 room m o ≡ refuses x → N x
-  unfolding examineOr20 examine
+  unfolding examineOr20By examineBy
   read-named none h x e = let q : refusal 20 ≡ x = cc in rw (← q) (plain-named 20 refl)
   read-named (some r) h x e = all-named r h x (refused-first (first (tests room m r)) (added m r) x e)
 
 pub clashing-variable : ClashingVariable
-unfolding examineBytes
+unfolding examineBytesBy
 clashing-variable room m v bytes x h = read-named room m v bytes (recordOf bytes) refl x h
 
 -- ---- a run
 
 pub run-named : RunNamed
-unfolding run next
+unfolding runBy nextBy
 run-named room m v bs s x = go (ltb recordsLimit (length bs)) (call-keeps room m v (runCall bs))
   where
     rs : List (List ℕ)

@@ -18,8 +18,8 @@ use Rattle.dqbf.specs.Text.{onto, pieces, isEmpty, nonEmpty, lastOf, par
 use Rattle.dqbf.specs.Reading.{accepted, headerOf, headerForm, prefixForm, clauseForm, tokensForm, isComment, formOf, isOpening, takesClauses, takesPrefix, elem, allIn, different, fresh, undeclarable, lineTests, declaring, taken, atEnd, unless, readFrom, load}
 use Rattle.dqbf.specs.Model.{Model, clauses, used, kindOf, setOf, clauseSet, place, wordOf, kindFor, setFor, numbers, modelBy, modelOf}
 use Rattle.dqbf.specs.Record.{zeros, signed, recordOf, stretches}
-use Rattle.dqbf.specs.Rules.{Addition, add, noRoom, clauseAt, unknown, reducing, reads, reductionTests, forking, forkTests, ruleTests, added, tests}
-use Rattle.dqbf.specs.Run.{Examined, accepts, refuses, judged, examine, examineOr20, examineBytes, bad, goOn, runFrom, run}
+use Rattle.dqbf.specs.Rules.{Addition, add, noRoom, clauseAt, unknown, reducing, reads, reductionTests, forking, forkTests, ruleTestsBy, added, testsBy}
+use Rattle.dqbf.specs.Run.{Examined, accepts, refuses, judged, examineBy, examineOr20By, examineBytes, examineBytesBy, bad, goOn, runFrom, runFromBy, runBy}
 use Rattle.dqbf.specs.Cases.{hexDigits, paired, hex}
 use Rattle.dqbf.specs.Statements.ELines.{everyUniversal, SetsShrink, universalsFirst, SameElsewhere, onward, beginning, addAll, BeginningRuns, BeginningStays, Stays, RunStays, alternating, EachLine, between, SomeGained}
 use Rattle.dqbf.proofs.Laws.Tests.{and-left, and-right, eqb-is, ltb-not}
@@ -170,7 +170,7 @@ module _ (text : List ℕ) (φ : Formula) (ok : load text ≡ accepted φ) where
 -- ---- the beginning of a run
 
 begun : (room : Room) (rs : List (List ℕ)) (k : ℕ) (m : Model) → runFrom room rs k m .model ≡ addAll m (beginning room m rs)
-unfolding runFrom goOn beginning onward addAll
+unfolding runFromBy goOn beginning onward addAll
 begun room [] k m = refl
 begun room (bs ∷ rs) k m = go (examineBytes room m bs) (λ a. begun room rs (suc k) (add m a))
   where
@@ -180,7 +180,7 @@ begun room (bs ∷ rs) k m = go (examineBytes room m bs) (λ a. begun room rs (s
     go (refuses x) ih = refl
 
 pub beginning-runs : BeginningRuns
-unfolding run
+unfolding runBy
 beginning-runs room m bs short = rw (ltb-not recordsLimit (length bs) short) (begun room (stretches (length bs) bs) 0 m)
 
 -- ---- lists and runs from the load
@@ -191,7 +191,7 @@ beginning-stays-accepted room text φ ok rs =
     (h .0, ap (λ (m : Model). beginning room m rs) (new-is text φ ok) ∙ h .1)
 
 pub run-stays-accepted : RunStays
-unfolding run withSets
+unfolding runBy withSets
 run-stays-accepted room text φ ok bs = rw (new-is text φ ok) (go (ltb recordsLimit (length bs)) (run-stays room (all text φ ok) sets′ (stretches (length bs) bs) 0 m (entries text φ ok) (no-forks text φ ok)))
   where
     m : Model
@@ -223,6 +223,6 @@ unfolding
     onto pieces isEmpty nonEmpty lastOf parted tokens allDigits valueFrom numberOf notZero variableOf literalOf isZero prepend closed
     headerOf headerForm prefixForm clauseForm tokensForm isComment formOf isOpening takesClauses takesPrefix elem allIn different fresh undeclarable lineTests declaring taken atEnd unless readFrom load
     clauses used kindOf setOf clauseSet place wordOf kindFor setFor numbers modelBy zeros signed recordOf
-    noRoom clauseAt unknown reducing reads reductionTests forking forkTests ruleTests added tests
-    judged examine examineOr20 examineBytes hexDigits paired hex between
+    noRoom clauseAt unknown reducing reads reductionTests forking forkTests ruleTestsBy added testsBy
+    judged examineBy examineOr20By examineBytesBy hexDigits paired hex between
 some-gained = record { text = refl; reduction = record { before = refl; now = refl }; fork = record { before = refl; now = refl } }

@@ -19,8 +19,8 @@ use Rattle.dqbf.specs.Literal.{Clause, _∈_, holds, without, pick, cove
 use Rattle.dqbf.specs.Set.{Set, union, inside}
 use Rattle.dqbf.specs.Model.{Model, clauses, used, steps, lowestEmpty, kindOf, setOf, clauseSet}
 use Rattle.dqbf.specs.Record.{Record, resolution, reduction, fork, recordOf}
-use Rattle.dqbf.specs.Rules.{Addition, add, noRoom, clauseAt, unknown, resolving, reducing, reads, reductionTests, forking, forkTests, ruleTests, added, tests}
-use Rattle.dqbf.specs.Run.{Examined, accepts, refuses, judged, examine, examineOr20, examineBytes, refuted, open′, bad, Verdict, Ran, verdictOf, goOn, runFrom}
+use Rattle.dqbf.specs.Rules.{Addition, add, noRoom, clauseAt, unknown, resolving, reducing, reads, reductionTests, forking, forkTests, ruleTestsBy, added, tests, testsBy}
+use Rattle.dqbf.specs.Run.{Examined, accepts, refuses, judged, examine, examineBy, examineOr20, examineOr20By, examineBytes, examineBytesBy, refuted, open′, bad, Verdict, Ran, verdictOf, goOn, runFrom, runFromBy}
 use Rattle.dqbf.specs.Statements.ELines.{onward, beginning, Lifted, Stays}
 use Rattle.dqbf.proofs.Laws.Tests.{eqb-is, never, no-or, not-no, or-no}
 use Rattle.dqbf.proofs.Laws.Containment.{inside-trans, inside-self, none-inside, inside-left, inside-right, union-inside, common-inside}
@@ -177,7 +177,7 @@ module _ (room : Room) (top : Set) (ts : List Set) where
     forking-same L R e f = rw (same-used, e, f)
 
     record-eased : (r : Record) → Eased (examine room m r) (examine room n r)
-    unfolding examine tests ruleTests reductionTests forkTests added
+    unfolding examineBy testsBy ruleTestsBy reductionTests forkTests added
     record-eased (resolution c d p) =
         rw (same-unknown c, same-unknown d, same-clause c, same-clause d, same-room (resolving (clauseAt m c) (clauseAt m d) p)) (inl refl)
     record-eased (reduction c l) =
@@ -203,7 +203,7 @@ module _ (room : Room) (top : Set) (ts : List Set) where
         (rw (l, r) h, same-room (forking n L R) ∙ ap (noRoom room m) f, f)))
 
     step-eased : (bs : List ℕ) → Eased (examineBytes room m bs) (examineBytes room n bs)
-    unfolding examineBytes examineOr20
+    unfolding examineBytesBy examineOr20By
     step-eased bs = go (recordOf bs)
       where
         go : (o : Option Record) → Eased (examineOr20 room m o) (examineOr20 room n o)
@@ -221,7 +221,7 @@ module _ (room : Room) (top : Set) (ts : List Set) where
         rw (List·Memᴰ·eq-of-singleton q) (common-inside (clauseSet m (pick a C)) (clauseSet m (pick b C)) top (clause-in (pick a C)))
 
     forks-too : (bs : List ℕ) (a : Addition) → examineBytes room m bs ≡ accepts a → AllInside top (add m a .forks)
-    unfolding examineBytes examineOr20 examine add
+    unfolding examineBytesBy examineOr20By examineBy add
     forks-too bs a = go (recordOf bs)
       where
         go : (o : Option Record) → examineOr20 room m o ≡ accepts a → AllInside top (m .forks ++ a .forks)
@@ -264,7 +264,7 @@ module _ (room : Room) (top : Set) (ts : List Set) where
       go false h = let z : _≡_ {A = ℕ} 0 1 = cc in omega arith
 
   run-grows : (rs : List (List ℕ)) (k : ℕ) (m : Model) → Grows k m (runFrom room rs k m)
-  unfolding runFrom goOn add
+  unfolding runFromBy goOn add
   run-grows [] k m = record { clauses = ([], sym (append-nil (m .derived))); forks = ([], sym (append-nil (m .forks))); later = λ i x h. absurd (not-bad m i x h) }
   run-grows (bs ∷ rs) k m = go (examineBytes room m bs) (λ a. run-grows rs (suc k) (add m a))
     where
@@ -294,7 +294,7 @@ module _ (room : Room) (top : Set) (ts : List Set) where
 
   pub run-stays : (rs : List (List ℕ)) (k : ℕ) (m : Model) → Entries top (m .kinds) (m .sets) ts → AllInside top (m .forks)
       → Stays (runFrom room rs k m) (runFrom room rs k (withSets m ts))
-  unfolding runFrom goOn add withSets verdictOf steps lowestEmpty clauses
+  unfolding runFromBy goOn add withSets verdictOf steps lowestEmpty clauses
   run-stays [] k m es f = ends-alike m (verdictOf m)
   run-stays (bs ∷ rs) k m es f = go (examineBytes room m bs) (step-eased m es f bs) (λ a h. run-stays rs (suc k) (add m a) es (forks-too m es f bs a h)) refl
     where

@@ -11,7 +11,7 @@ use Rattle.dqbf.specs.Refusal.{Refusal}
 use Rattle.dqbf.specs.Model.{Model, steps}
 use Rattle.dqbf.specs.Record.{Record, recordOf, stretches}
 use Rattle.dqbf.specs.Rules.{Addition, add}
-use Rattle.dqbf.specs.Run.{Examined, accepts, refuses, examine, examineOr20, examineBytes, Verdict, bad, verdictOf, goOn, runFrom, run, Ran}
+use Rattle.dqbf.specs.Run.{Examined, accepts, refuses, examineBy, examineOr20, examineOr20By, examineBytes, examineBytesBy, Verdict, bad, verdictOf, goOn, runFrom, runFromBy, runBy, Ran}
 use Rattle.dqbf.specs.Valid.{Valid}
 use Rattle.dqbf.specs.Statements.RunCount.{RunCount, Counted}
 use Rattle.dqbf.proofs.StepsKeepValid.{examine-keeps}
@@ -22,7 +22,7 @@ use Rattle.dqbf.specs.Refusal as Refusal
 module _ (room : Room) where
   -- an accepted record: a valid model of one step more
   step-counts : (m : Model) → Valid room m → (bs : List ℕ) (a : Addition) → examineBytes room m bs ≡ accepts a → Valid room (add m a) × (steps (add m a) ≡ suc (steps m))
-  unfolding examineBytes examineOr20 examine
+  unfolding examineBytesBy examineOr20By examineBy
   step-counts m v bs a = go (recordOf bs)
     where
       go : (o : Option Record) → examineOr20 room m o ≡ accepts a → Valid room (add m a) × (steps (add m a) ≡ suc (steps m))
@@ -35,7 +35,7 @@ module _ (room : Room) where
       ((w ≡ verdictOf m′) × (steps m′ ≡ steps m + k)) ⊎ ((i : ℕ) × (x : Refusal) × (i < k) × (w ≡ bad (suc (n + i)) x) × (steps m′ ≡ steps m + i))
 
   runFrom-counts : (rs : List (List ℕ)) (n : ℕ) (m : Model) → Valid room m → CountedFrom n m (length rs) (runFrom room rs n m .model) (runFrom room rs n m .verdict)
-  unfolding runFrom goOn
+  unfolding runFromBy goOn
   runFrom-counts [] n m v = inl (refl, omega arith)
   runFrom-counts (bs ∷ rs) n m v = go (examineBytes room m bs) refl (λ m′ v′. runFrom-counts rs (suc n) m′ v′)
     where
@@ -51,7 +51,7 @@ module _ (room : Room) where
           more q (inr h) = inr (suc (h .0), h .1, omega (arith, h .2), h .3 ∙ ap (λ (k : ℕ). bad k (h .1)) (omega arith), omega (arith, h .4))
 
 pub run-count : RunCount
-unfolding run
+unfolding runBy
 run-count room m v bs h = rw (ltb-not recordsLimit (length bs) h) (go (runFrom-counts room (stretches (length bs) bs) 0 m v))
   where
     r : Ran

@@ -10,3 +10,4 @@ pub mod Exact
 pub mod MarkedCases
 pub mod ELines
 pub mod ClashingVariable
+pub mod ClashBeforeWidth

@@ -19,7 +19,7 @@ use Rattle.dqbf.proofs.LoadValid.{load-valid}
 use Rattle.dqbf.proofs.StepsKeepValid.{call-keeps}
 use Rattle.tables.specs.Tables.{modelIn}
 use Rattle.tables.specs.Spread.{spread, stateOf}
-use Rattle.tables.specs.WellFormed.{long, wellFormed}
+use Rattle.tables.specs.WellFormed.{wellFormed}
 use Rattle.tables.proofs.Laws.Spread.{valid-held, formed-spread}
 use Rattle.dqdimacs.specs.Loading.{loadAnswer, loadedModel, loadedOn, loadOf}
 use Rattle.steps.specs.Steps.{ranOn, runOf}
@@ -79,7 +79,7 @@ module _ (b : Buffers) (g : Good b) (records : List ℕ) where
   ran-model = run tables model records .model
 
   ran-valid : Valid tables ran-model
-  unfolding ran-model model Run.next
+  unfolding ran-model model Run.nextBy
   ran-valid = call-keeps tables model (valid-held (tablesIn b) (stateIn b) (lent-long b (g .room)) (g .formed)) (Run.runCall records)
 
   run-is : runOf (tablesIn b) (stateIn b) records ≡ ranOn (tablesIn b) (run tables model records)

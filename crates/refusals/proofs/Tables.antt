@@ -13,7 +13,7 @@ use Rattle.dqbf.specs.Limits.{Room, tables, recordsLimit, recordSize}
 use Rattle.dqbf.specs.Refusal.{Refusal, refusal}
 use Rattle.dqbf.specs.Record.{stretches}
 use Rattle.dqbf.specs.Model.{Model, clauses}
-use Rattle.dqbf.specs.Run.{Examined, accepts, refuses, after, refusalOf, examineBytes, bad, verdictOf, runFrom, run}
+use Rattle.dqbf.specs.Run.{Examined, accepts, refuses, after, refusalOf, examineBytes, examineBytesBy, bad, verdictOf, runFrom, runFromBy, run, runBy}
 use Rattle.dqbf.specs.Run as Calculus
 use Rattle.dqbf.specs.Valid.{Valid}
 use Rattle.dqbf.specs.Reading.{Loaded, accepted, refused, load}
@@ -109,7 +109,7 @@ stretches-at (suc n) (suc k) (b ∷ bs) h =
 -- ---- a run of the calculus over bytes
 
 front-examined : (room : Room) (m : Model) (bs : List ℕ) → examineBytes room m (take recordSize bs) ≡ examineBytes room m bs
-unfolding examineBytes
+unfolding examineBytesBy
 front-examined room m bs = rw (record-front bs)
 
 module _ (m : Model) (bytes : List ℕ) (x : Refusal) where
@@ -118,7 +118,7 @@ module _ (m : Model) (bytes : List ℕ) (x : Refusal) where
 
   -- refused as a whole, or at the first record
   run-whole : (k : ℕ) → k ≤ 1 → run tables m bytes .verdict ≡ bad k x → run tables m bytes .model ≡ m
-  unfolding run runFrom
+  unfolding runBy runFromBy
   run-whole k h e = by (ltb recordsLimit (length bytes)) e
     where
       none-before : (z : Model) (i : ℕ) → i ≡ 0 → runFrom tables (take i (recordsIn bytes)) 0 m ≡ record { model = z; verdict = verdictOf z } → z ≡ m
@@ -137,7 +137,7 @@ module _ (m : Model) (bytes : List ℕ) (x : Refusal) where
         × (examineBytes tables z (drop (recordSize * k) bytes) ≡ refuses x)
 
     run-front : run tables m bytes .verdict ≡ bad (suc k) x → Before (run tables m bytes .model)
-    unfolding run
+    unfolding runBy
     run-front e = by (ltb recordsLimit (length bytes)) refl e
       where
         by : (c : Bool) → ltb recordsLimit (length bytes) ≡ c → ranBy c .verdict ≡ bad (suc k) x → Before (ranBy c .model)
@@ -160,15 +160,15 @@ unfolding verdictOf verdictIn stateOf
 verdict-told m = refl
 
 run-valid : (m : Model) (bytes : List ℕ) → Valid tables m → Valid tables (run tables m bytes .model)
-unfolding Calculus.next
+unfolding Calculus.nextBy
 run-valid m bytes v = call-keeps tables m v (Calculus.runCall bytes)
 
 module _ (t : Tables) (s : State) (bytes : List ℕ) (r : Refusal) where
-  abbrev runBy : Bool → Bool → AfterRun
-  runBy a b = cond (not a) (runRefused t s 1) (cond (not b) (runRefused t s 2) (ranOn t (run tables (modelIn t s) bytes)))
+  abbrev outcomeFor : Bool → Bool → AfterRun
+  outcomeFor a b = cond (not a) (runRefused t s 1) (cond (not b) (runRefused t s 2) (ranOn t (run tables (modelIn t s) bytes)))
 
-  whole-by : (step : ℕ) → step ≤ 1 → (a b : Bool) → a ≡ long t → b ≡ wellFormed t s → runBy a b .answer ≡ bad step r
-      → runBy a b ≡ record { tables = t; state = s; answer = bad step r }
+  whole-by : (step : ℕ) → step ≤ 1 → (a b : Bool) → a ≡ long t → b ≡ wellFormed t s → outcomeFor a b .answer ≡ bad step r
+      → outcomeFor a b ≡ record { tables = t; state = s; answer = bad step r }
   unfolding runRefused ranOn
   whole-by step f false b h k e = λ i. record { tables = t; state = s; answer = e i }
   whole-by step f true false h k e = λ i. record { tables = t; state = s; answer = e i }
@@ -186,7 +186,7 @@ module _ (t : Tables) (s : State) (bytes : List ℕ) (r : Refusal) where
         (runOf t s (take (recordSize * k) bytes) ≡ record { tables = z .tables; state = z .state; answer = verdictIn (z .state) })
         × (stepOf (z .tables) (z .state) (drop (recordSize * k) bytes) .answer ≡ some r)
 
-    stopped-by : (a b : Bool) → a ≡ long t → b ≡ wellFormed t s → runBy a b .answer ≡ bad (suc k) r → Stopping (runBy a b)
+    stopped-by : (a b : Bool) → a ≡ long t → b ≡ wellFormed t s → outcomeFor a b .answer ≡ bad (suc k) r → Stopping (outcomeFor a b)
     unfolding runRefused ranOn runOf stepOf examined refusalOf
     stopped-by false b h j e = absurd (let z : _≡_ {A = ℕ} 0 (suc k) = cc in omega (arith, z))
     stopped-by true false h j e = absurd (let z : _≡_ {A = ℕ} 0 (suc k) = cc in omega (arith, z))
@@ -198,8 +198,8 @@ module _ (t : Tables) (s : State) (bytes : List ℕ) (r : Refusal) where
           rw (long-spread m v t (sym h), formed-spread m v t, model-back m v t, f .1),
         )
 
-    holds-by : (a b : Bool) → a ≡ long t → b ≡ wellFormed t s → runBy a b .answer ≡ bad (suc k) r
-        → (m : Model) × Valid tables m × (runBy a b .tables ≡ spread m t) × (runBy a b .state ≡ stateOf m)
+    holds-by : (a b : Bool) → a ≡ long t → b ≡ wellFormed t s → outcomeFor a b .answer ≡ bad (suc k) r
+        → (m : Model) × Valid tables m × (outcomeFor a b .tables ≡ spread m t) × (outcomeFor a b .state ≡ stateOf m)
     unfolding runRefused ranOn
     holds-by false b h j e = absurd (let z : _≡_ {A = ℕ} 0 (suc k) = cc in omega (arith, z))
     holds-by true false h j e = absurd (let z : _≡_ {A = ℕ} 0 (suc k) = cc in omega (arith, z))
@@ -253,7 +253,7 @@ module _ (t : Tables) where
   module _ (s : State) (bytes : List ℕ) where
     step-framed : (a b : Bool) → a ≡ long t → b ≡ wellFormed t s
         → Framed t (cond (not a) (stepRefused t s 1) (cond (not b) (stepRefused t s 2) (examined t (modelIn t s) (examineBytes tables (modelIn t s) bytes))) .tables)
-    unfolding stepRefused examined Calculus.next
+    unfolding stepRefused examined Calculus.nextBy
     step-framed false b h k = framed-same
     step-framed true false h k = framed-same
     step-framed true true h k =

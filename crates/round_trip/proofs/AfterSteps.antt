@@ -11,7 +11,7 @@ use Rattle.dqbf.specs.Model.{Model, modelOf}
 use Rattle.dqbf.specs.Valid.{Valid}
 use Rattle.dqbf.specs.Record.{stretches}
 use Rattle.dqbf.specs.Rules.{add}
-use Rattle.dqbf.specs.Run.{Examined, accepts, refuses, examineBytes, after, bad, goOn, runFrom, run}
+use Rattle.dqbf.specs.Run.{Examined, accepts, refuses, examineBytes, after, bad, goOn, runFrom, runFromBy, run, runBy}
 use Rattle.dqbf.specs.Run as Run
 use Rattle.dqbf.specs.Spelled.{formulaPart, linesOf, spelled}
 use Rattle.dqbf.specs.Spelling.{text}
@@ -41,7 +41,7 @@ after-part m (refuses x) = refl
 
 module _ (room : Room) where
   records-part : (rs : List (List ℕ)) (n : ℕ) (m : Model) → formulaPart (runFrom room rs n m .model) ≡ formulaPart m
-  unfolding runFrom goOn after
+  unfolding runFromBy goOn after
   records-part [] n m = refl
   records-part (bs ∷ rs) n m = go (examineBytes room m bs) (λ m′. records-part rs (suc n) m′)
     where
@@ -51,7 +51,7 @@ module _ (room : Room) where
       go (refuses x) rest = refl
 
   run-part : (m : Model) (bs : List ℕ) → formulaPart (run room m bs .model) ≡ formulaPart m
-  unfolding run
+  unfolding runBy
   run-part m bs = go (ltb recordsLimit (length bs))
     where
       go : (b : Bool) → formulaPart (cond b (record { model = m; verdict = bad 0 (refusal 11) }) (runFrom room (stretches (length bs) bs) 0 m) .model) ≡ formulaPart m
@@ -83,11 +83,11 @@ module _ (t : Tables) (s : State) (lent : long t ≡ true) (formed : wellFormed 
   m = modelIn t s
 
   step-valid : (bytes : List ℕ) → Valid tables (after m (examineBytes tables m bytes))
-  unfolding Run.next
+  unfolding Run.nextBy
   step-valid bytes = call-keeps tables m (valid-held t s lent formed) (Run.stepCall bytes)
 
   run-valid : (records : List ℕ) → Valid tables (run tables m records .model)
-  unfolding Run.next
+  unfolding Run.nextBy
   run-valid records = call-keeps tables m (valid-held t s lent formed) (Run.runCall records)
 
   run-is : (records : List ℕ) → runOf t s records ≡ ranOn t (run tables m records)

@@ -19,7 +19,7 @@ ghost use Rattle.dqbf.specs.Run.{examine};
 ghost use Rattle.tables.specs.Tables.{tablesOf, modelIn};
 ghost use Rattle.additions.specs.Adding.{Holding, After};
 
-// Resolution: 21, 22, 24, 23, 25.
+// Resolution: 21, 22, 23, 24, 25.
 pub fn resolve(
     first: ClauseNumber,
     second: ClauseNumber,

@@ -6,8 +6,8 @@ use checker::records::{record, Step};
 
 use crate::case::Case;
 use crate::draft::{Draft, Prefix};
-use crate::formulas::{self, random_clause, random_formula, random_prefix, Size};
-use crate::prover::{records_of, resolution, Prover};
+use crate::formulas::{self, filled, random_clause, random_formula, random_prefix, Size};
+use crate::prover::{mask, records_of, resolution, Prover};
 use crate::random::Random;
 use crate::seeded::{loaded, text_of};
 
@@ -20,29 +20,58 @@ enum Role {
     Second,
 }
 
-/// The roles of all variables, ascending. By choice the resolvent has about as many
-/// literals as it may have, or the pairs stand in front or behind.
-fn roles(random: &mut Random) -> Vec<Role> {
-    let pairs = random.pick(&[2, 3, 3, 4, 5, 8, 16, 17]);
-    let alike = random.below(4);
-    let literals: usize = random.pick(&[31, 32, 32, 32, 33, 34]);
-    let most = literals.saturating_sub(2 * (pairs - 1) + alike);
-    let some = random.below(8).min(most);
-    let alone = random.pick(&[some, some, most]);
-    let room = WIDTH - pairs - alike;
-    let first = random.between(alone.saturating_sub(room), alone.min(room));
-    let mut others = vec![Role::Alike; alike];
-    others.extend(vec![Role::First; first]);
-    others.extend(vec![Role::Second; alone - first]);
-    random.shuffle(&mut others);
-    let pairs = vec![Role::Complementary; pairs];
-    match random.below(4) {
-        0 => [pairs, others].concat(),
-        1 => [others, pairs].concat(),
-        _ => {
-            let mut all = [pairs, others].concat();
-            random.shuffle(&mut all);
-            all
+/// How many variables two clauses have: in different signs, in the same sign, and
+/// in one of them only.
+#[derive(Clone, Copy)]
+pub(crate) struct Shares {
+    pub pairs: usize,
+    pub alike: usize,
+    pub alone: usize,
+}
+
+impl Shares {
+    /// Shares such that the resolvent has so many literals, as far as it can.
+    pub fn of(pairs: usize, alike: usize, literals: usize) -> Shares {
+        let most = 2 * (WIDTH - pairs - alike);
+        let alone = literals.saturating_sub(2 * (pairs - 1) + alike);
+        Shares {
+            pairs,
+            alike,
+            alone: alone.min(most),
+        }
+    }
+
+    /// Two or more pairs. By choice the resolvent has about as many literals as it
+    /// may have.
+    fn clashing(random: &mut Random) -> Shares {
+        let pairs = random.pick(&[2, 3, 3, 4, 5, 8, 16, 17]);
+        let literals = random.pick(&[31, 32, 32, 32, 33, 34]);
+        let wide = Shares::of(pairs, random.below(4), literals);
+        let some = Shares {
+            alone: random.below(8).min(wide.alone),
+            ..wide
+        };
+        random.pick(&[some, some, wide])
+    }
+
+    /// The roles of all variables, ascending. By choice the pairs stand in front or
+    /// behind.
+    fn roles(self, random: &mut Random) -> Vec<Role> {
+        let room = WIDTH - self.pairs - self.alike;
+        let first = random.between(self.alone.saturating_sub(room), self.alone.min(room));
+        let mut others = vec![Role::Alike; self.alike];
+        others.extend(vec![Role::First; first]);
+        others.extend(vec![Role::Second; self.alone - first]);
+        random.shuffle(&mut others);
+        let pairs = vec![Role::Complementary; self.pairs];
+        match random.below(4) {
+            0 => [pairs, others].concat(),
+            1 => [others, pairs].concat(),
+            _ => {
+                let mut all = [pairs, others].concat();
+                random.shuffle(&mut all);
+                all
+            }
         }
     }
 }
@@ -78,10 +107,16 @@ fn some_variables(random: &mut Random, count: usize, last: usize) -> Vec<u32> {
     variables
 }
 
-/// A formula whose clauses 1 and 2 have two or more complementary pairs. Clauses 3
-/// and 4 are complementary units, and some clauses more follow.
+/// A formula whose clauses 1 and 2 have two or more complementary pairs.
 pub fn formula(random: &mut Random) -> Draft {
-    let roles = roles(random);
+    let shares = Shares::clashing(random);
+    formula_of(random, shares)
+}
+
+/// A formula whose clauses 1 and 2 have such shares. Clauses 3 and 4 are
+/// complementary units, and some clauses more follow.
+pub(crate) fn formula_of(random: &mut Random, shares: Shares) -> Draft {
+    let roles = shares.roles(random);
     let count = roles.len();
     let last = random.pick(&[count, count + 9, 260, 512, 512]).max(count);
     let mut variables = some_variables(random, count, last);
@@ -108,10 +143,17 @@ pub fn formula(random: &mut Random) -> Draft {
 /// A formula of a clause of two to six universals and the clause of their
 /// complements.
 pub fn opposites(random: &mut Random) -> Draft {
-    let count = random.between(2, 6);
+    let pairs = random.between(2, 6);
+    opposites_of(random, Shares::of(pairs, 0, 0))
+}
+
+/// A formula of two clauses over universals with such shares.
+pub(crate) fn opposites_of(random: &mut Random, shares: Shares) -> Draft {
+    let roles = shares.roles(random);
+    let count = roles.len();
     let last = random.pick(&[count, count + 6, 300, 507]);
     let mut variables = some_variables(random, count, last);
-    let clauses = pair(random, &variables, &vec![Role::Complementary; count]);
+    let clauses = pair(random, &variables, &roles);
     random.shuffle(&mut variables);
     Draft {
         variables: last,
@@ -120,24 +162,23 @@ pub fn opposites(random: &mut Random) -> Draft {
     }
 }
 
-/// On a formula of [`opposites`]: parts clause 1 by forks, one literal each, and
-/// resolves each with clause 2. What is left has a fork variable in the place of
-/// each literal parted off, and its complement in the other clause.
+/// On a formula of [`opposites`]: parts clause 1 by forks, one literal of a pair
+/// each, as long as they are permitted, and resolves each with clause 2. What is
+/// left has a fork variable in the place of each literal parted off, and its
+/// complement in the other clause.
 pub fn part(prover: &mut Prover) -> (u32, u32) {
     let (mut rest, mut other) = (1, 2);
-    let count = prover.numbers(rest).len();
+    let mut literals = prover.opposed(rest, other);
+    prover.random.shuffle(&mut literals);
+    let some = prover.random.between(1, literals.len());
+    literals.truncate(prover.random.pick(&[some, literals.len()]));
     let mut parted = Vec::new();
-    for done in 0..prover.random.between(1, count - 1) {
-        let place = prover.random.below(count - done);
-        let literal = prover.numbers(rest)[place];
+    for literal in literals {
         let left = prover.state.clauses().len() as u32 + 1;
-        prover.apply(Step::Fork {
-            clause: rest,
-            left: 1 << place,
-            right: !(1 << place) & ((1 << count) - 1),
-        });
-        parted.push((left, literal));
-        rest = left + 1;
+        if prover.apply(parting(&prover.numbers(rest), rest, literal)) {
+            parted.push((left, literal));
+            rest = left + 1;
+        }
     }
     for (left, literal) in parted {
         prover.apply(resolution(left, other, literal));
@@ -146,13 +187,23 @@ pub fn part(prover: &mut Prover) -> (u32, u32) {
     (rest, other)
 }
 
+/// A fork of a clause into one of its literals and the others.
+fn parting(numbers: &[i32], clause: u32, literal: i32) -> Step {
+    let is_literal = |number: &i32| *number == literal;
+    Step::Fork {
+        clause,
+        left: mask(numbers.iter().map(is_literal)),
+        right: mask(numbers.iter().map(|number| !is_literal(number))),
+    }
+}
+
 /// A resolution with more than one complementary pair of two clauses, in either
 /// order; of any two if these have none.
 pub fn step(prover: &mut Prover, (first, second): (u32, u32)) -> Option<Step> {
     let (first, second) = prover.random.pick(&[(first, second), (second, first)]);
-    match prover.clash_of(first, second) {
-        Some(clash) => Some(clash.step),
-        None => prover.clash(),
+    match prover.joined(first, second) {
+        Some(joined) if joined.has_pair() => Some(joined.step),
+        _ => prover.clash(),
     }
 }
 
@@ -166,48 +217,59 @@ fn draft(random: &mut Random) -> Draft {
     }
 }
 
-/// Permitted steps, often to an empty clause, then a resolution with more than one
-/// complementary pair.
-fn steps(prover: &mut Prover) -> Vec<Step> {
+/// Permitted steps, where there is room often to an empty clause.
+fn lead(prover: &mut Prover) {
     let tries = prover.random.pick(&[0, 3, 20, 60]);
     prover.wander(tries);
     prover.forks_first = prover.random.chance(70);
     prover.universal_pivots = prover.random.chance(50);
-    if prover.random.chance(40) {
+    if prover.state.clauses().len() < 200 && prover.random.chance(40) {
         prover.saturate(60);
     }
-    let clash = step(prover, (1, 2));
-    prover.steps.iter().copied().chain(clash).collect()
 }
 
-/// The same with forks, some steps later.
-fn forked_steps(prover: &mut Prover) -> Vec<Step> {
+/// The same with forks that part the clauses, whose new numbers are told.
+fn forked_lead(prover: &mut Prover) -> (u32, u32) {
     let clauses = part(prover);
     prover.wander(4);
-    let clash = step(prover, clauses);
-    prover.steps.iter().copied().chain(clash).collect()
+    clauses
 }
 
-/// A list up to a resolution with more than one complementary pair, and sometimes
-/// records behind it.
-pub fn case(random: &mut Random) -> Case {
-    let forked = random.chance(15);
-    let draft = if forked {
-        opposites(random)
+/// A list on a formula with clauses for a last step, by choice where there is
+/// hardly any room, and sometimes with records behind that step.
+pub(crate) fn case_of(
+    label: &str,
+    (draft, forked): (Draft, bool),
+    last: impl Fn(&mut Prover, (u32, u32)) -> Option<Step>,
+    random: &mut Random,
+) -> Case {
+    let text = if !forked && random.chance(30) {
+        filled(draft, random).plain()
     } else {
-        draft(random)
+        text_of(&draft, random)
     };
-    let text = text_of(&draft, random);
     let mut prover = Prover::new(loaded(&text), random);
-    let steps = if forked {
-        forked_steps(&mut prover)
+    let clauses = if forked {
+        forked_lead(&mut prover)
     } else {
-        steps(&mut prover)
+        lead(&mut prover);
+        (1, 2)
     };
+    let last = last(&mut prover, clauses);
+    let steps: Vec<Step> = prover.steps.iter().copied().chain(last).collect();
     let mut records = records_of(&steps);
     if prover.random.chance(30) {
         records.extend(records_of(&[prover.random_step()]));
         records.extend(record(4, [0; 3]));
     }
-    Case::checked("seeded/clash", text, records)
+    Case::checked(label, text, records)
+}
+
+/// A list up to a resolution with more than one complementary pair.
+pub fn case(random: &mut Random) -> Case {
+    let start = match random.below(100) {
+        0..=14 => (opposites(random), true),
+        _ => (draft(random), false),
+    };
+    case_of("seeded/clash", start, step, random)
 }

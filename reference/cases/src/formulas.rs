@@ -1,6 +1,8 @@
 //! Random valid formulas, and the formulas printed in the sources: 002, section
 //! 5, and in 000 Theorem 2 and the families F and G.
 
+use checker::limits::{CLAUSES, TEXT_BYTES};
+
 use crate::draft::{Draft, Prefix};
 use crate::random::Random;
 
@@ -13,6 +15,8 @@ pub struct Size {
     pub width: (usize, usize),
     /// Existential literals that a clause has at least, as far as there are any.
     pub least: usize,
+    /// How many of a hundred literals are positive.
+    pub positive: usize,
 }
 
 /// Small enough to be decided by meaning; often refuted by a single step.
@@ -22,6 +26,7 @@ pub const TINY: Size = Size {
     clauses: (1, 8),
     width: (0, 3),
     least: 0,
+    positive: 50,
 };
 
 /// Small enough to be decided by meaning.
@@ -31,6 +36,7 @@ pub const SMALL: Size = Size {
     clauses: (3, 16),
     width: (1, 4),
     least: 1,
+    positive: 50,
 };
 
 /// Small, and with clauses that fork.
@@ -40,6 +46,7 @@ pub const FORKED: Size = Size {
     clauses: (6, 18),
     width: (2, 4),
     least: 2,
+    positive: 50,
 };
 
 /// No universal: a propositional formula.
@@ -49,6 +56,7 @@ pub const PROPOSITIONAL: Size = Size {
     clauses: (6, 28),
     width: (1, 3),
     least: 1,
+    positive: 50,
 };
 
 pub const MEDIUM: Size = Size {
@@ -57,6 +65,7 @@ pub const MEDIUM: Size = Size {
     clauses: (10, 50),
     width: (2, 6),
     least: 2,
+    positive: 50,
 };
 
 /// Clauses near the greatest width.
@@ -66,6 +75,15 @@ pub const WIDE: Size = Size {
     clauses: (4, 20),
     width: (8, 32),
     least: 2,
+    positive: 50,
+};
+
+/// Clauses near the greatest width with few negated literals, so that many
+/// resolvents are too wide and hold no variable in both signs.
+pub const ALIKE: Size = Size {
+    width: (16, 32),
+    positive: 92,
+    ..WIDE
 };
 
 /// Numbers of two digits, so that many literals fit into a text.
@@ -75,6 +93,7 @@ pub const CROWDED: Size = Size {
     clauses: (10, 30),
     width: (2, 32),
     least: 2,
+    positive: 50,
 };
 
 /// A random formula within a size; some variables below V stay undeclared.
@@ -230,7 +249,7 @@ pub(crate) fn random_clause(
     let chosen = first.into_iter().chain(rest).take(width);
     let signed = chosen.map(|variable| {
         let number = variable as i32;
-        if random.chance(50) {
+        if random.chance(size.positive) {
             number
         } else {
             -number
@@ -250,6 +269,21 @@ pub fn crowded_formula(random: &mut Random) -> Draft {
         }
         _ => fill_with_literals(&mut draft, random.between(8_120, 8_192)),
     }
+    draft
+}
+
+/// Repeats clauses until there is no room for another one, or hardly any.
+pub(crate) fn filled(mut draft: Draft, random: &mut Random) -> Draft {
+    let mut long = draft.clone();
+    fill_with_literals(&mut long, random.between(8_170, 8_192));
+    let fits = long.clauses.len() <= CLAUSES && long.plain().len() <= TEXT_BYTES;
+    if fits && random.chance(50) {
+        return long;
+    }
+    let unit = vec![draft.clauses[0][0]];
+    draft
+        .clauses
+        .resize(random.between(CLAUSES - 3, CLAUSES), unit);
     draft
 }
 

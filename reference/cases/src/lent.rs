@@ -19,7 +19,13 @@ pub struct LentCase {
 /// Well-formed tables, numbered by a seed and an index.
 pub fn well_formed(seed: u64, index: u64) -> LentCase {
     let random = &mut Random::for_case(seed, index);
-    let size = random.pick(&[formulas::TINY, formulas::FORKED, formulas::MEDIUM]);
+    let size = random.pick(&[
+        formulas::TINY,
+        formulas::FORKED,
+        formulas::MEDIUM,
+        formulas::WIDE,
+        formulas::ALIKE,
+    ]);
     let text = random_formula(random, size).plain();
     let start = State::load(&text).expect("drafts are within the limits");
     let mut prover = Prover::new(start, random);
@@ -100,7 +106,7 @@ fn change_steps(lent: &mut Lent, random: &mut Random) {
 }
 
 /// Some permitted steps, then one that may be refused, or a resolution with more
-/// than one complementary pair.
+/// than one complementary pair or a resolvent that is too wide.
 fn records_for(lent: &Lent, tries: usize, random: &mut Random) -> Vec<u8> {
     let state = checker::wellformed::rebuild(&lent.tables, &lent.counts);
     let Ok(state) = state else {
@@ -110,8 +116,10 @@ fn records_for(lent: &Lent, tries: usize, random: &mut Random) -> Vec<u8> {
     prover.wander(tries + 20);
     let mut steps = prover.steps.clone();
     match prover.random.below(100) {
-        0..=39 => steps.push(prover.random_step()),
-        40..=69 => steps.extend(prover.clash()),
+        0..=24 => steps.push(prover.random_step()),
+        25..=49 => steps.extend(prover.clash()),
+        50..=64 => steps.extend(prover.too_wide(true)),
+        65..=84 => steps.extend(prover.too_wide(false)),
         _ => (),
     }
     records_of(&steps)

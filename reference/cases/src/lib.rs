@@ -21,6 +21,7 @@ pub mod shaped;
 pub mod stepped;
 pub mod tabled;
 pub mod tidied;
+pub mod wide;
 
 use case::Case;
 

@@ -4,6 +4,7 @@
 use std::collections::{BTreeMap, BTreeSet};
 
 use checker::clause::Clause;
+use checker::limits::WIDTH;
 use checker::records::{encode, Step};
 use checker::refusal::Number;
 use checker::rules;
@@ -235,38 +236,66 @@ impl<'a> Prover<'a> {
         resolution(first, second, pivot)
     }
 
-    /// A resolution of two clauses that have more than one complementary pair.
-    pub fn clash_of(&mut self, first: u32, second: u32) -> Option<Clash> {
+    /// The literals of a clause whose complements are in another one.
+    pub fn opposed(&self, first: u32, second: u32) -> Vec<i32> {
         let others = self.numbers(second);
-        let mut pivots = self.numbers(first);
-        pivots.retain(|pivot| others.contains(&-pivot));
-        if pivots.len() < 2 {
+        let mut opposed = self.numbers(first);
+        opposed.retain(|literal| others.contains(&-literal));
+        opposed
+    }
+
+    /// A resolution of two clauses on any of their complementary pairs.
+    pub fn joined(&mut self, first: u32, second: u32) -> Option<Joined> {
+        let mut both = self.opposed(first, second);
+        if both.is_empty() {
             return None;
         }
-        let pivot = pivots.remove(self.random.below(pivots.len()));
-        Some(Clash {
+        let pivot = both.remove(self.random.below(both.len()));
+        let [one, other] = [first, second].map(|clause| self.numbers(clause));
+        let alike = one.iter().filter(|literal| other.contains(literal));
+        Some(Joined {
             step: resolution(first, second, pivot),
-            lowest: pivots[0].unsigned_abs(),
-            count: pivots.len(),
+            both: both.iter().map(|literal| literal.unsigned_abs()).collect(),
+            literals: one.len() + other.len() - 2 - alike.count(),
         })
     }
 
-    /// Such a resolution of random clauses: the first found, the one with the most
-    /// pairs, or one with pairs of high variables, as forks have them.
-    pub fn clash(&mut self) -> Option<Step> {
+    /// Such resolutions of random clauses.
+    fn some_joined(&mut self) -> Vec<Joined> {
         let mut found = Vec::new();
         for _ in 0..60 {
             let (first, second) = (self.random_clause(), self.random_clause());
             if first != 0 {
-                found.extend(self.clash_of(first, second));
+                found.extend(self.joined(first, second));
             }
         }
+        found
+    }
+
+    /// A resolution of clauses that have more than one complementary pair: the first
+    /// found, the one with the most pairs, or one with pairs of high variables, as
+    /// forks have them.
+    pub fn clash(&mut self) -> Option<Step> {
+        let mut found = self.some_joined();
+        found.retain(Joined::has_pair);
         let chosen = match self.random.below(3) {
             0 => found.first(),
-            1 => found.iter().max_by_key(|clash| clash.count),
-            _ => found.iter().max_by_key(|clash| clash.lowest),
+            1 => found.iter().max_by_key(|joined| joined.both.len()),
+            _ => found.iter().max_by_key(|joined| joined.both[0]),
         };
-        chosen.map(|clash| clash.step)
+        chosen.map(|joined| joined.step)
+    }
+
+    /// A resolution whose resolvent has too many literals, with or without a
+    /// complementary pair, if one of that kind is found: the first or the narrowest.
+    pub fn too_wide(&mut self, with_pair: bool) -> Option<Step> {
+        let mut found = self.some_joined();
+        found.retain(|joined| joined.is_too_wide() && joined.has_pair() == with_pair);
+        let chosen = match self.random.below(2) {
+            0 => found.first(),
+            _ => found.iter().min_by_key(|joined| joined.literals),
+        };
+        chosen.map(|joined| joined.step)
     }
 
     /// A fork into random parts; few literals are in both.
@@ -280,13 +309,23 @@ impl<'a> Prover<'a> {
     }
 }
 
-/// A resolution whose resolvent has complementary literals.
-pub struct Clash {
+/// A resolution on complementary literals.
+pub struct Joined {
     pub step: Step,
-    /// The lowest variable that it holds in both signs.
-    pub lowest: u32,
-    /// How many there are.
-    pub count: usize,
+    /// The variables that the resolvent holds in both signs, ascending.
+    pub both: Vec<u32>,
+    /// How many literals it has.
+    pub literals: usize,
+}
+
+impl Joined {
+    pub fn has_pair(&self) -> bool {
+        !self.both.is_empty()
+    }
+
+    pub fn is_too_wide(&self) -> bool {
+        self.literals > WIDTH
+    }
 }
 
 pub fn resolution(first: u32, second: u32, pivot: i32) -> Step {
@@ -297,7 +336,8 @@ pub fn resolution(first: u32, second: u32, pivot: i32) -> Step {
     }
 }
 
-fn mask(places: impl Iterator<Item = bool>) -> u32 {
+/// The mask that picks such places.
+pub(crate) fn mask(places: impl Iterator<Item = bool>) -> u32 {
     let bits = places.enumerate().filter(|&(_, picked)| picked);
     bits.fold(0, |mask, (place, _)| mask | 1 << place)
 }

@@ -11,18 +11,21 @@ use crate::draft::Draft;
 use crate::formulas::{self, disguised_family, random_formula};
 use crate::prover::{records_of, trimmed, Prover};
 use crate::random::Random;
+use crate::wide;
 
 /// Case `index` of a seed.
 pub fn case(seed: u64, index: u64) -> Case {
     let random = &mut Random::for_case(seed, index);
     match random.below(100) {
-        0..=17 => refutation(random),
-        18..=25 => refutation_and_more(random),
-        26..=35 => saturated(random),
-        36..=47 => wandering(random),
-        48..=60 => with_damaged_text(random),
-        61..=65 | 85..=89 => clashing::case(random),
-        66..=84 => with_damaged_records(random),
+        0..=15 => refutation(random),
+        16..=23 => refutation_and_more(random),
+        24..=32 => saturated(random),
+        33..=43 => wandering(random),
+        44..=55 => with_damaged_text(random),
+        56..=57 => wide::text_case(random),
+        58..=66 => clashing::case(random),
+        67..=76 => wide::case(random),
+        77..=89 => with_damaged_records(random),
         90..=94 => with_wild_records(random),
         95..=97 => crowded(random),
         _ => with_wild_text(random),
@@ -118,10 +121,11 @@ fn saturated(random: &mut Random) -> Case {
 }
 
 fn wandering_draft(random: &mut Random) -> Draft {
-    match random.below(4) {
+    match random.below(5) {
         0 => random_formula(random, formulas::MEDIUM),
         1 => random_formula(random, formulas::WIDE),
-        2 => {
+        2 => random_formula(random, formulas::ALIKE),
+        3 => {
             let n = random.below(15);
             disguised_family(random, n)
         }

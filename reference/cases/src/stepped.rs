@@ -3,16 +3,17 @@
 
 use checker::calls::Lent;
 use checker::limits::RECORD;
-use checker::records::record;
+use checker::records::{record, Step};
 use checker::refusal::Number;
 use checker::state::State;
 
 use crate::case::Case;
 use crate::damage::damaged_records;
+use crate::draft::Draft;
 use crate::formulas::{self, random_formula};
 use crate::prover::{records_of, Prover};
 use crate::random::Random;
-use crate::{clashing, fixed, published, seeded};
+use crate::{clashing, fixed, published, seeded, wide};
 
 const SEED: u64 = 16;
 /// Fixed cases on a text of so many bytes are taken as one list.
@@ -41,7 +42,8 @@ pub fn cases() -> Vec<Case> {
     seeded.retain(|case| size(case) < MOST_SEEDED);
     let mixed = (0..200).map(|index| mixed(SEED, index)).collect();
     let clashes = (0..80).map(|index| clashes(SEED, index)).collect();
-    [short, joined(long), theorem, seeded, mixed, clashes].concat()
+    let wide = (0..40).map(|index| wide_ones(SEED, index)).collect();
+    [short, joined(long), theorem, seeded, mixed, clashes, wide].concat()
 }
 
 fn size(case: &Case) -> usize {
@@ -93,11 +95,37 @@ fn mixed(seed: u64, index: u64) -> Case {
 /// complementary pair, sometimes of fork variables.
 fn clashes(seed: u64, index: u64) -> Case {
     let random = &mut Random::for_case(seed ^ 5, index);
-    let (forked, draft) = match random.below(5) {
-        0 => (false, random_formula(random, formulas::FORKED)),
-        1 => (true, clashing::opposites(random)),
-        _ => (false, clashing::formula(random)),
+    let start = match random.below(5) {
+        0 => (random_formula(random, formulas::FORKED), false),
+        1 => (clashing::opposites(random), true),
+        _ => (clashing::formula(random), false),
     };
+    with_refused("seeded/clashes", start, clashing::step, random)
+}
+
+/// The same with resolvents of too many literals, with or without a pair.
+fn wide_ones(seed: u64, index: u64) -> Case {
+    let random = &mut Random::for_case(seed ^ 6, index);
+    let start = match random.below(5) {
+        0 => (wide::opposites(random), true),
+        1 | 2 => (wide::formula(random, true), false),
+        _ => (wide::formula(random, false), false),
+    };
+    let other = |prover: &mut Prover, clauses| {
+        let with_pair = prover.random.chance(50);
+        wide::step(prover, clauses, with_pair)
+    };
+    with_refused("seeded/wide", start, other, random)
+}
+
+/// Permitted steps with others between them for clauses 1 and 2, or for those that
+/// forks have made of them.
+fn with_refused(
+    label: &str,
+    (draft, forked): (Draft, bool),
+    other: impl Fn(&mut Prover, (u32, u32)) -> Option<Step>,
+    random: &mut Random,
+) -> Case {
     let text = draft.plain();
     let start = State::load(&text).expect("drafts are within the limits");
     let prover = &mut Prover::new(start, random);
@@ -107,9 +135,9 @@ fn clashes(seed: u64, index: u64) -> Case {
         (1, 2)
     };
     let before = records_of(&prover.steps);
-    let clash = |prover: &mut Prover| records_of(clashing::step(prover, clauses).as_slice());
-    let records = [before, interleaved(prover, clash)].concat();
-    Case::checked("seeded/clashes", text, records)
+    let other = |prover: &mut Prover| records_of(other(prover, clauses).as_slice());
+    let records = [before, interleaved(prover, other)].concat();
+    Case::checked(label, text, records)
 }
 
 /// Permitted steps with other records between them.

@@ -34,16 +34,16 @@ fn a_seed_gives_the_same_cases_on_every_machine() {
 }
 
 const SEED_1: [&str; 12] = [
-    "formula 17 10",
+    "bad 6 23 14",
     "refuted 18 27",
     "bad 11 25",
-    "bad 4 29",
+    "bad 1 23 15",
     "open 2",
-    "formula 8 10",
+    "bad 1 23 487",
     "bad 1 20",
-    "bad 3 23 244",
-    "open 20",
-    "bad 5 20",
+    "bad 7 23 331",
+    "bad 64 21",
+    "bad 3 24",
     "refuted 1 26",
     "bad 68 20",
 ];
@@ -115,7 +115,7 @@ fn many_lists_go_deep() {
         deep += usize::from(words[0] != "formula" && steps >= 20);
         refuted_by_steps += usize::from(words[0] == "refuted" && steps >= 3);
     }
-    assert!(deep > 700, "{deep}");
+    assert!(deep > 650, "{deep}");
     assert!(refuted_by_steps > 300, "{refuted_by_steps}");
 }
 
@@ -237,6 +237,7 @@ fn steps_go_on_behind_refused_ones() {
     let lent = &mut Lent::zero();
     let mut found: BTreeMap<u16, usize> = BTreeMap::new();
     let mut variables = BTreeSet::new();
+    let mut wide: BTreeMap<u16, usize> = BTreeMap::new();
     let (mut behind, mut forks, mut emptied, mut cut) = (0, 0, 0, 0);
     for case in stepped::cases() {
         if lent.load(&case.text).is_err() {
@@ -247,7 +248,11 @@ fn steps_go_on_behind_refused_ones() {
         let later = &answers[refused.expect("the rest is empty at last")..];
         behind += later.iter().filter(|answer| answer.is_none()).count();
         for answer in answers {
-            *found.entry(answer.map_or(0, Number::value)).or_default() += 1;
+            let number = answer.map_or(0, Number::value);
+            *found.entry(number).or_default() += 1;
+            if case.label == "seeded/wide" {
+                *wide.entry(number).or_default() += 1;
+            }
             variables.extend(answer.and_then(Number::variable));
         }
         let counts = lent.counts;
@@ -260,7 +265,8 @@ fn steps_go_on_behind_refused_ones() {
     assert!(found.values().all(|&count| count >= 15), "{found:?}");
     assert!(behind > 500 && forks > 1_000, "{behind} {forks}");
     assert!(emptied > 100 && cut > 50, "{emptied} {cut}");
-    // Document 02, Note 4.
+    // Document 02, Notes 4 and 5.
+    assert!(wide[&23] > 50 && wide[&24] > 50, "{wide:?}");
     assert!(variables.len() > 60, "{variables:?}");
     assert!([1, 2, 255, 256, 511, 512]
         .iter()

@@ -1,14 +1,16 @@
 //! 002, section 4: a step is accepted if and only if its rule permits it, and
 //! adds just what the rule derives. The rules are put here once more, by
 //! membership of single literals and universals, and tried on every step of
-//! many small states; with them the variable of 23 (document 02, Note 4).
+//! many small states; with them the variable of 23 and the order of 23, 24 and 25
+//! (document 02, Notes 4 and 5).
 
 use cases::clashing;
 use cases::formulas::{self, random_formula};
 use cases::prover::Prover;
 use cases::random::Random;
+use cases::wide;
 use checker::clause::numbers_of;
-use checker::limits::WIDTH;
+use checker::limits::{CLAUSES, LITERALS, WIDTH};
 use checker::records::{encode, Step};
 use checker::refusal::Number;
 use checker::rules;
@@ -224,9 +226,14 @@ fn accepted_if_and_only_if_the_rule_permits_it() {
 #[derive(Debug, Default)]
 struct Tally {
     accepted: usize,
+    /// Too wide, and with no variable in both signs.
     wide: usize,
     /// Too wide, and with a variable in both signs.
     wide_with_pair: usize,
+    /// Nothing but room is missing.
+    no_room: usize,
+    /// There is no room, and the resolvent is refused for another reason.
+    not_for_room: usize,
     /// With one variable in both signs, and with more than one.
     one: usize,
     more: usize,
@@ -237,48 +244,62 @@ struct Tally {
 /// States with clauses of all widths and with fork variables.
 fn joined_state(index: u64) -> State {
     let random = &mut Random::for_case(22, index);
-    let draft = match index % 6 {
+    let mut draft = match index % 8 {
         0 => random_formula(random, formulas::WIDE),
         1 => random_formula(random, formulas::MEDIUM),
         2 | 3 => random_formula(random, formulas::FORKED),
+        4 => random_formula(random, formulas::ALIKE),
+        5 => wide::formula(random, index % 16 > 8),
         _ => clashing::formula(random),
     };
+    if index % 24 == 5 {
+        // As many clauses as there may be; the last ones are empty.
+        draft.clauses.resize(CLAUSES, Vec::new());
+    }
     let mut prover = Prover::new(State::load(&draft.plain()).unwrap(), random);
     prover.wander(30);
     prover.state
 }
 
-/// One resolution: 24 above 32 literals, else 23 with the lowest variable in both
-/// signs if there is one, else accepted.
+/// One resolution: 23 with the lowest variable in both signs if there is one, else
+/// 24 above 32 literals, else 25 without room, else accepted.
 fn assert_joined(rules: &Rules, first: u32, second: u32, pivot: i64, tally: &mut Tally) {
     let Some((literals, both)) = rules.joined(first, second, pivot) else {
         return;
     };
-    let found = rules::resolution(rules.state, first, second, pivot as i32).err();
-    if literals > WIDTH {
-        assert_eq!(found, Some(Number::TooWide));
-        tally.wide += 1;
-        tally.wide_with_pair += usize::from(!both.is_empty());
-        return;
-    }
+    let counts = rules.state.counts();
+    let room = usize::from(counts.clauses) < CLAUSES
+        && usize::from(counts.literals) + literals <= LITERALS;
     let lowest = both.first().map(|&variable| variable as u32);
-    assert_eq!(found, lowest.map(Number::Tautology));
-    match both.len() {
-        0 => tally.accepted += 1,
-        1 => tally.one += 1,
-        _ => tally.more += 1,
+    let wanted = match lowest {
+        Some(variable) => Some(Number::Tautology(variable)),
+        None if literals > WIDTH => Some(Number::TooWide),
+        None if !room => Some(Number::NoRoom),
+        None => None,
+    };
+    let found = rules::resolution(rules.state, first, second, pivot as i32).err();
+    assert_eq!(found, wanted, "{first}, {second}, {pivot}");
+    match (literals > WIDTH, both.len()) {
+        (true, 0) => tally.wide += 1,
+        (true, _) => tally.wide_with_pair += 1,
+        (false, 0) if room => tally.accepted += 1,
+        (false, 0) => tally.no_room += 1,
+        (false, 1) => tally.one += 1,
+        (false, _) => tally.more += 1,
     }
-    let declared = u32::from(rules.state.counts().header_variables);
+    let otherwise = matches!(found, Some(Number::Tautology(_) | Number::TooWide));
+    tally.not_for_room += usize::from(!room && otherwise);
+    let declared = u32::from(counts.header_variables);
     tally.forks += usize::from(lowest.is_some_and(|variable| variable > declared));
 }
 
 #[test]
-fn the_lowest_variable_in_both_signs_is_told() {
+fn a_pair_is_told_before_the_width_and_the_room() {
     let mut tally = Tally::default();
     for index in 0..240 {
         let state = joined_state(index);
         let rules = Rules::new(&state);
-        let numbers = 1..=rules.clauses.len() as u32;
+        let numbers = 1..=rules.clauses.len().min(100) as u32;
         for (first, clause) in numbers.clone().zip(&rules.clauses) {
             for second in numbers.clone() {
                 for &pivot in clause {
@@ -289,7 +310,10 @@ fn the_lowest_variable_in_both_signs_is_told() {
     }
     assert!(tally.accepted > 10_000, "{tally:?}");
     assert!(tally.one > 3_000 && tally.more > 3_000, "{tally:?}");
-    assert!(tally.wide > tally.wide_with_pair + 100, "{tally:?}");
-    assert!(tally.wide_with_pair > 3_000, "{tally:?}");
+    assert!(
+        tally.wide > 300 && tally.wide_with_pair > 3_000,
+        "{tally:?}"
+    );
+    assert!(tally.no_room > 10 && tally.not_for_room > 100, "{tally:?}");
     assert!(tally.forks > 40, "{tally:?}");
 }

@@ -106,7 +106,7 @@ fn the_same_text_means_the_same_formula() {
         existentials: (0, 1),
         clauses: (0, 1),
         width: (0, 2),
-        least: 0,
+        ..formulas::TINY
     };
     let state = |index| {
         let random = &mut Random::for_case(43, index);

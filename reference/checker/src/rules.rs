@@ -1,5 +1,5 @@
-//! Document 01, "Step records" and "Numbers of refusal", and document 02, Note 4:
-//! the three rules, each with its tests in the stated order.
+//! Document 01, "Step records" and "Numbers of refusal", with Notes 4 and 5 of
+//! document 02: the three rules, each with its tests in the stated order.
 
 use std::collections::BTreeSet;
 
@@ -35,7 +35,7 @@ pub fn examine(state: &State, step: Step) -> Result<Addition, Number> {
     }
 }
 
-/// Resolution: 21, 22, 24, 23 with its variable, 25.
+/// Resolution: 21, 22, 23 with its variable, 24, 25.
 pub fn resolution(state: &State, first: u32, second: u32, pivot: i32) -> Result<Addition, Number> {
     let first = state.clause(first)?;
     let second = state.clause(second)?;
@@ -44,11 +44,11 @@ pub fn resolution(state: &State, first: u32, second: u32, pivot: i32) -> Result<
     let negative = find(second, -pivot).ok_or(Number::NotThere)?;
     let mut resolvent = without(first, positive);
     resolvent.extend(without(second, negative));
-    if resolvent.len() > limits::WIDTH {
-        return Err(Number::TooWide);
-    }
     if let Some(variable) = lowest_in_both_signs(&resolvent) {
         return Err(Number::Tautology(variable));
+    }
+    if resolvent.len() > limits::WIDTH {
+        return Err(Number::TooWide);
     }
     within_room(state, vec![resolvent], None)
 }

@@ -1,5 +1,5 @@
-//! Document 02, Note 4: 23 tells the lowest variable that the resolvent holds in
-//! both signs, and step, run and line pass it on.
+//! Document 02, Notes 4 and 5: 23 tells the lowest variable that the resolvent holds
+//! in both signs, also if it has over 32 literals, and step, run and line pass it on.
 
 use checker::calls::Lent;
 use checker::driver::Buffers;
@@ -96,6 +96,32 @@ fn stated_ones() {
     assert_eq!(line(&[1, 2, 40], &[-40, 2, 1], 40), "open 1");
 }
 
+/// A resolution of two clauses of 32 literals each, which share a variable beside
+/// the pivot.
+fn widest(literal: i32, other: i32) -> String {
+    let (one, more): (Vec<i32>, Vec<i32>) = (101..=160).partition(|v| *v <= 130);
+    let first = [&one[..], &[literal, 512]].concat();
+    let second = [&more[..], &[other, -512]].concat();
+    line(&first, &second, 512)
+}
+
+#[test]
+fn stated_wide_ones() {
+    assert_eq!(widest(1, -1), "bad 1 23 1");
+    assert_eq!(widest(1, 1), "bad 1 24");
+    assert_eq!(widest(-511, 511), "bad 1 23 511");
+    assert_eq!(widest(-511, -511), "bad 1 24");
+    let (odd, even): (Vec<i32>, Vec<i32>) = (2..=34).partition(|v| v % 2 == 1);
+    let with = |clause: &[i32], more: &[i32]| [clause, more].concat();
+    assert_eq!(line(&with(&odd, &[1]), &with(&even, &[-1]), 1), "bad 1 24");
+    let pair = with(&even[1..], &[-1, -3]);
+    assert_eq!(line(&with(&odd, &[1]), &pair, 1), "bad 1 23 3");
+    let pairs = with(&even, &[-1, -33, -31]);
+    assert_eq!(line(&with(&odd, &[1]), &pairs, 1), "bad 1 23 31");
+    assert_eq!(line(&pairs, &with(&odd, &[1]), -1), "bad 1 23 31");
+    assert_eq!(line(&pairs, &with(&odd, &[1]), -31), "bad 1 23 1");
+}
+
 /// A resolvent over the variables 1, 2, .. that holds one in both signs, with a
 /// pivot above them or, all numbers one higher, below.
 fn with_pair(literals: i32, pair: i32, below: bool) -> String {
@@ -123,13 +149,10 @@ fn with_pair(literals: i32, pair: i32, below: bool) -> String {
 
 #[test]
 fn a_pair_at_every_place_of_a_wide_resolvent() {
-    for literals in 30..=34 {
+    for literals in 30..=47 {
         for pair in 1..literals {
             for below in [false, true] {
-                let wanted = match literals {
-                    33.. => "bad 1 24".into(),
-                    _ => format!("bad 1 23 {}", pair + i32::from(below)),
-                };
+                let wanted = format!("bad 1 23 {}", pair + i32::from(below));
                 assert_eq!(with_pair(literals, pair, below), wanted, "{literals}");
             }
         }

@@ -189,8 +189,13 @@ fn widths_of_resolvents() {
         (named(1..=31), named(2..=32), 0),
         (named(1..=31), named(3..=33), 24),
         (named(1..=16), named((1..=16).map(|v| -v)), 23),
-        (named(1..=17), named((1..=17).map(|v| -v)), 24),
-        (named(1..=31), named((1..=31).map(|v| -v)), 24),
+        (named(1..=17), named((1..=17).map(|v| -v)), 23),
+        (named(1..=31), named((1..=31).map(|v| -v)), 23),
+        (named(1..=17), named((17..=32).map(|v| -v)), 23),
+        (named(1..=31), named((31..=61).map(|v| -v)), 23),
+        (named(34..=64), named((4..=34).map(|v| -v)), 23),
+        (named(1..=16), named((17..=33).map(|v| -v)), 24),
+        (named(1..=31), named((32..=62).map(|v| -v)), 24),
     ];
     for (first, second, number) in cases {
         expect(&wide(&first, &second), &[(1, [1, 2, 65], number)]);
@@ -248,6 +253,25 @@ fn no_room_for_a_clause_comes_last() {
         &full_clauses(2_047),
         &[(1, [2, 3, 2], 0), (2, [1, 0, 1], 0)],
     );
+}
+
+/// The same table with {1, .., 20}, {21, .., 40} and {-1, .., -20}, each with 50 or
+/// its complement.
+#[test]
+fn no_room_comes_behind_a_wide_resolvent() {
+    let [first, second] = [named(1..=20), named(21..=40)];
+    let (third, rest) = (named((1..=20).map(|v| -v)), "0|".repeat(2_045));
+    let clauses = format!("{first}50 0|{second}-50 0|{third}-50 0|{rest}");
+    let text = format!("p cnf 50 2048|e {}0|{clauses}", named(1..=50));
+    let cases = [
+        (1, [1, 2, 50], 24),
+        (1, [1, 3, 50], 23),
+        (1, [3, 1, -50], 23),
+        (1, [1, 3, 49], 22),
+        (1, [1, 3, -50], 22),
+        (1, [1, 2_049, 50], 21),
+    ];
+    expect(&text, &cases);
 }
 
 #[test]

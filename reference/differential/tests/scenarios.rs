@@ -134,11 +134,16 @@ fn a_wrong_line_is_found() {
     for case in cases::fixed().iter().take(200) {
         assert!(program.difference(case).unwrap().is_some());
     }
-    let (two, wide) = ("clash/two pairs", "clash/33 literals, one pair in front");
     let wrong = ["bad 1 23", "bad 1 23 0", "bad 1 23 50"];
-    assert_only(&script, &program, two, "bad 1 23 7", wrong);
+    assert_only(&script, &program, "clash/two pairs", "bad 1 23 7", wrong);
+    let (pair, none) = (
+        "clash/33 literals, one pair in front",
+        "wide/34 literals, no pair",
+    );
+    let wrong = ["bad 1 24", "bad 1 24 1", "bad 1 23"];
+    assert_only(&script, &program, pair, "bad 1 23 1", wrong);
     let wrong = ["bad 1 24 0", "bad 1 24 1", "bad 1 23 1"];
-    assert_only(&script, &program, wide, "bad 1 24", wrong);
+    assert_only(&script, &program, none, "bad 1 24", wrong);
 }
 
 /// Of some lines that a program prints for a fixed case only one is right.

@@ -41,6 +41,7 @@ fn narrow(literal: i64) -> i16 {
     i16::try_from(literal).unwrap_or(0)
 }
 
+/// In the order 21, 22, 23, 24, 25.
 fn resolution(tables: &mut Tables, first: u32, second: u32, pivot: i32) -> Result<(), u64> {
     let (start, end) = tables.stretch(first).ok_or(21u64)?;
     let first = &tables.literals[start..end];
@@ -52,11 +53,11 @@ fn resolution(tables: &mut Tables, first: u32, second: u32, pivot: i32) -> Resul
     }
     let mut new = [0; 2 * WIDTH];
     let (length, lowest) = merge(first, second, pivot, &mut new);
-    if length > WIDTH {
-        return Err(24);
-    }
     if lowest != NONE {
         return Err(23 | u64::from(lowest) << 16);
+    }
+    if length > WIDTH {
+        return Err(24);
     }
     room(tables, 1, length, 0)?;
     tables.add(&new[..length]);

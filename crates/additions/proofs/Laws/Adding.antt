@@ -94,23 +94,23 @@ fitted-accepted m a h = rw h
 -- ---- the number of refusal of a resolvent, by its tests
 
 module _ (s : State) (n : ℕ) (b : Bool) where
-  pub number-24 : widthLimit < n → 24 ≡ refusalNumber s n b
+  pub number-23 : b ≡ true → 23 ≡ refusalNumber s n b
   unfolding refusalNumber
-  number-24 h = rw (lt-ltb widthLimit n h)
+  number-23 h = rw h
 
-  module _ (narrow : n ≤ widthLimit) where
-    pub number-23 : b ≡ true → 23 ≡ refusalNumber s n b
+  module _ (calm : b ≡ false) where
+    pub number-24 : widthLimit < n → 24 ≡ refusalNumber s n b
     unfolding refusalNumber
-    number-23 h = rw (le-ltb widthLimit n narrow, h)
+    number-24 h = rw (calm, lt-ltb widthLimit n h)
 
-    module _ (calm : b ≡ false) {f : Bool} (told : f ≡ full s 1 n 0) where
+    module _ (narrow : n ≤ widthLimit) {f : Bool} (told : f ≡ full s 1 n 0) where
       pub number-25 : f ≡ true → 25 ≡ refusalNumber s n b
       unfolding refusalNumber
-      number-25 h = rw (le-ltb widthLimit n narrow, calm, ← told, h)
+      number-25 h = rw (calm, le-ltb widthLimit n narrow, ← told, h)
 
       pub number-0 : f ≡ false → 0 ≡ refusalNumber s n b
       unfolding refusalNumber
-      number-0 h = rw (le-ltb widthLimit n narrow, calm, ← told, h)
+      number-0 h = rw (calm, le-ltb widthLimit n narrow, ← told, h)
 
 -- the refusal for a number
 module _ (n v : ℕ) where
@@ -185,15 +185,15 @@ module _ (t : Tables) (s : State) (h : Holding t s) where
 
     by-number : tested (modelIn t s) C ≡ cond (eqb x 0) (fitted (modelIn t s) (One C)) (refuses (refusalTold (refusalFor x (lowestClash C))))
     unfolding tested fitted refusalNumber refusalFor refusalTold
-    by-number = rw (isX, room-is) (go (ltb widthLimit (length C)) (clashes C) (full s 1 (length C) 0))
+    by-number = rw (isX, room-is) (go (clashes C) (ltb widthLimit (length C)) (full s 1 (length C) 0))
       where
         number : Bool → Bool → Bool → ℕ
-        number a b f = cond a 24 (cond b 23 (cond f 25 0))
+        number a b f = cond a 23 (cond b 24 (cond f 25 0))
 
         room : Bool → Examined
         room f = cond f (refuses (refusal 25)) (accepts (One C))
 
-        go : (a b f : Bool) → cond a (refuses (refusal 24)) (cond b (refuses (naming 23 (lowestClash C))) (room f))
+        go : (a b f : Bool) → cond a (refuses (naming 23 (lowestClash C))) (cond b (refuses (refusal 24)) (room f))
             ≡ cond (eqb (number a b f) 0) (room f) (refuses (refusalTold (refusalFor (number a b f) (lowestClash C))))
         go true b f = refl
         go false true f = refl
@@ -220,13 +220,13 @@ module _ (t : Tables) (s : State) (h : Holding t s) where
 
       resolvent-narrow : (length C ≤ widthLimit) × (full s 1 (length C) 0 ≡ false)
       unfolding refusalNumber
-      resolvent-narrow = go (ltb widthLimit (length C)) refl (clashes C) (full s 1 (length C) 0) (sym isX ∙ zero)
+      resolvent-narrow = go (clashes C) (ltb widthLimit (length C)) refl (full s 1 (length C) 0) (sym isX ∙ zero)
         where
-          go : (a : Bool) → ltb widthLimit (length C) ≡ a → (b f : Bool) → _≡_ {A = ℕ} (cond a 24 (cond b 23 (cond f 25 0))) 0 → (length C ≤ widthLimit) × (f ≡ false)
-          go true e b f q = absurd (omega arith)
-          go false e true f q = absurd (omega arith)
-          go false e false true q = absurd (omega arith)
-          go false e false false q = (ltb-no widthLimit (length C) e, refl)
+          go : (a b : Bool) → ltb widthLimit (length C) ≡ b → (f : Bool) → _≡_ {A = ℕ} (cond a 23 (cond b 24 (cond f 25 0))) 0 → (length C ≤ widthLimit) × (f ≡ false)
+          go true b e f q = absurd (omega arith)
+          go false true e f q = absurd (omega arith)
+          go false false e true q = absurd (omega arith)
+          go false false e false q = (ltb-no widthLimit (length C) e, refl)
 
       pub resolvent-fits : (length C ≤ widthLimit) × (full s 1 (length C) 0 ≡ false) × (s .literals + length C ≤ literalLimit)
       resolvent-fits =

@@ -1,7 +1,7 @@
 -- Complementary literals of a clause in order (specs/Literal.antt): the variable that `lowestClash` names is the lowest that the clause holds in both signs.
--- Offers `clash-lowest`.
+-- Offers `clash-lowest`, `held-clashes`.
 use mathlib.Core.Path.{_≡_, refl, sym, _∙_, ap}
-use mathlib.Core.Logic.{_⊎_, inl, inr, _≢_}
+use mathlib.Core.Logic.{_⊎_, inl, inr, ⊎-elim, _≢_}
 use mathlib.Core.Bool.{Bool, true, false, cond, _||_, false≢true}
 use mathlib.Core.List.{[], _∷_, List·Memᴰ·head, List·Memᴰ·tail, List·Memᴰ·cases-cons}
 use Prim.Native.Nat.{ℕ, zero, suc, _+_, _*_, _≤_, _<_}
@@ -11,7 +11,7 @@ use lib.IntN.{ℤ, pos, negsuc, negℤ, natAbs}
 use Rattle.dqbf.specs.Literal.{Clause, _∈_, rank, clashes, lowestClash}
 use Rattle.dqbf.specs.Valid.{InOrder, Ascending}
 use Rattle.dqbf.specs.Statements.ClashingVariable.{InBothSigns, LowestInBothSigns, ClashLowest}
-use Rattle.dqbf.proofs.Laws.Tests.{or-no, eqb-is, eqb-same}
+use Rattle.dqbf.proofs.Laws.Tests.{either, or-no, eqb-is, eqb-same}
 use Rattle.dqbf.proofs.Laws.Literals.{rank-high, rank-low}
 use Rattle.dqbf.proofs.Laws.Order.{in-order-ascending, ascending-pure}
 
@@ -97,3 +97,7 @@ no-both C s (suc x) b = let e = ap rank (ascending-pure C s (pos (suc x)) (neg�
 
 pub clash-lowest : ClashLowest
 clash-lowest C s = (found-lowest C s, λ h. (found-none C h, no-both C (in-order-ascending C s h)))
+
+-- a variable held in both signs is found
+pub held-clashes : (C : Clause) → InOrder C → (x : ℕ) → InBothSigns C x → clashes C ≡ true
+held-clashes C o x h = ⊎-elim (λ e. e) (λ e. absurd (clash-lowest C o .1 e .1 x h)) (either (clashes C))

@@ -8,16 +8,19 @@ use Prim.Native.Nat.{ℕ, zero, suc, _+_, _-_, _≤_, _<_}
 use native.Mathlib.Decide.{decLt}
 use native.Mathlib.Omega.{arith}
 use lib.Dec.{eqb, ltb, eqb·suc-zero}
+use lib.IntN.{ℤ}
 use lib.ListN.{length, getD, replicate, length-append, List·getD-eq-default}
 use lib.Seq.{getD-append-add}
 use Rattle.dqbf.specs.Limits.{Room}
 use Rattle.dqbf.specs.Literal.{Clause, _∈_, total}
 use Rattle.dqbf.specs.Model.{Model, clauses, used, kindOf}
+use Rattle.dqbf.specs.Valid.{Valid, InOrder}
 use Rattle.dqbf.specs.Published.{Fits, Numbered}
-use Rattle.dqbf.specs.Rules.{Addition, add, clauseAt, unknown, noRoom}
-use Rattle.dqbf.specs.Run.{accepts, judged}
+use Rattle.dqbf.specs.Rules.{Addition, add, clauseAt, unknown, noRoom, resolvent}
+use Rattle.dqbf.specs.Run.{accepts, refuses, judged}
 use Rattle.dqbf.specs.Refusal.{Refusal}
 use Rattle.dqbf.proofs.Laws.Lists.{nth}
+use Rattle.dqbf.proofs.Laws.Order.{resolvent-order}
 use Rattle.dqbf.proofs.Laws.Tests.{ltb-no, ltb-not, no-or, or-no}
 use Rattle.dqbf.proofs.Soundness.View.{length-kinds}
 use Rattle.dqbf.specs.Refusal as Refusal
@@ -28,6 +31,14 @@ pub judged-is : (o : Option Refusal) (a b : Addition) → judged o a ≡ accepts
 unfolding judged
 judged-is none a b h = (refl, cc)
 judged-is (some x) a b h = absurd (let z : _≡_ {A = ℕ} 0 1 = cc in omega arith)
+
+pub refused-first : (o : Option Refusal) (a : Addition) (x : Refusal) → judged o a ≡ refuses x → o ≡ some x
+unfolding judged
+refused-first none a x h = absurd (let z : _≡_ {A = ℕ} 0 1 = cc in omega arith)
+refused-first (some y) a x h = cc
+
+pub refuses-is : (x y : Refusal) → refuses x ≡ refuses y → x ≡ y
+refuses-is x y h = cc
 
 -- ---- room
 
@@ -62,6 +73,11 @@ pub there : (m : Model) (c : ℕ) → unknown m c ≡ false → clauseAt m c ∈
 unfolding unknown clauseAt
 there m zero h = absurd (true≢false h)
 there m (suc i) h = nth (clauses m) i [] (ltb-no (length (clauses m)) (suc i) (or-no (eqb (suc i) 0) (ltb (length (clauses m)) (suc i)) h .1))
+
+pub resolvent-in-order : (room : Room) (m : Model) → Valid room m → (c d : ℕ) (p : ℤ) → unknown m c ≡ false → unknown m d ≡ false
+    → InOrder (resolvent (clauseAt m c) (clauseAt m d) p)
+resolvent-in-order room m v c d p h k =
+    resolvent-order (clauseAt m c) (clauseAt m d) p (v .kept (clauseAt m c) (there m c h) .ascends) (v .kept (clauseAt m d) (there m d k) .ascends)
 
 -- ---- variables in use
 

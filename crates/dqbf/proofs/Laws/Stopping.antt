@@ -11,7 +11,7 @@ use Rattle.dqbf.specs.Limits.{Room}
 use Rattle.dqbf.specs.Refusal.{Refusal}
 use Rattle.dqbf.specs.Model.{Model, steps, lowestEmpty}
 use Rattle.dqbf.specs.Rules.{add}
-use Rattle.dqbf.specs.Run.{Examined, accepts, refuses, examineBytes, refuted, open′, bad, verdictOf, goOn, runFrom}
+use Rattle.dqbf.specs.Run.{Examined, accepts, refuses, examineBytes, refuted, open′, bad, verdictOf, goOn, runFrom, runFromBy}
 
 -- a verdict at the end of the list is not bad
 ended-good : (m : Model) (k : ℕ) (x : Refusal) → verdictOf m ≡ bad k x → ⊥
@@ -30,7 +30,7 @@ pub record Stopped (room : Room) (l : List (List ℕ)) (n : ℕ) (m : Model) (k 
   pub refused : examineBytes room (runFrom room l n m .model) (getD l before []) ≡ refuses x
 
 pub stopped-at : (room : Room) (l : List (List ℕ)) (n : ℕ) (m : Model) (k : ℕ) (x : Refusal) → runFrom room l n m .verdict ≡ bad k x → Stopped room l n m k x
-unfolding runFrom goOn
+unfolding runFromBy goOn
 stopped-at room [] n m k x e = absurd (ended-good m k x e)
 stopped-at room (bs ∷ rest) n m k x e = going (λ m′ q. stopped-at room rest (suc n) m′ k x q) (examineBytes room m bs) refl e
   where

@@ -95,6 +95,9 @@ never false h = refl
 pub ltb-not : (a b : ℕ) → b ≤ a → ltb a b ≡ false
 ltb-not a b h = never (ltb a b) (λ t. let u = ltb-yes a b t in omega arith)
 
+pub some-is : (x y : Refusal) → some x ≡ some y → x ≡ y
+some-is x y h = cc
+
 -- ---- two lists of refusal tests, one behind the other
 
 pub first-some : (ts us : List Test) (x : Refusal) → Refusal.first ts ≡ some x → Refusal.first (ts ++ us) ≡ some x
@@ -108,3 +111,15 @@ unfolding Refusal.first
 first-none [] us h = refl
 first-none ((y when true) ∷ ts) us h = absurd (let z : _≡_ {A = ℕ} 0 1 = cc in omega arith)
 first-none ((y when false) ∷ ts) us h = first-none ts us h
+
+-- two neighbouring tests swapped: the first that applies is the same, or both of them apply and none before them does
+pub first-swap : (ts us : List Test) (x y : Refusal) (a b : Bool)
+    → (Refusal.first (ts ++ ((x when a) ∷ (y when b) ∷ us)) ≡ Refusal.first (ts ++ ((y when b) ∷ (x when a) ∷ us)))
+    ⊎ ((Refusal.first ts ≡ none) × (a ≡ true) × (b ≡ true))
+unfolding Refusal.first
+first-swap [] us x y true true = inr (refl, refl, refl)
+first-swap [] us x y true false = inl refl
+first-swap [] us x y false true = inl refl
+first-swap [] us x y false false = inl refl
+first-swap ((z when true) ∷ ts) us x y a b = inl refl
+first-swap ((z when false) ∷ ts) us x y a b = first-swap ts us x y a b

@@ -13,7 +13,7 @@ use Rattle.dqbf.specs.Literal.{Clause, _∈_, pick, covers}
 use Rattle.dqbf.specs.Set.{inside, common}
 use Rattle.dqbf.specs.Model.{Model, clauses, used, clauseSet}
 use Rattle.dqbf.specs.Record.{fork}
-use Rattle.dqbf.specs.Rules.{Addition, clauseAt, unknown, forking, forkTests, ruleTests, added, tests}
+use Rattle.dqbf.specs.Rules.{Addition, clauseAt, unknown, forking, forkTests, ruleTestsBy, added, tests, testsBy}
 use Rattle.dqbf.specs.Run.{accepts, examine}
 use Rattle.dqbf.specs.Valid.{InOrder, Valid}
 use Rattle.dqbf.specs.Published.{FEx, Fits}
@@ -36,7 +36,7 @@ module _ (room : Room) (m : Model) (v : Valid room m) where
       (more-ascending (pick a C) x (pick-ascending a C (v .kept C c .ascends)) (λ l q. let u = in-use m (natAbs l) (v .kept C c .over l (pick-in a C l q)) in omega arith))
 
   pub fork-to : (c a b : ℕ) → Refusal.first (tests room m (fork c a b)) ≡ none → FEx m c a b (added m (fork c a b)) × Fits room m (added m (fork c a b))
-  unfolding tests ruleTests forkTests added forking
+  unfolding testsBy ruleTestsBy forkTests added forking
   fork-to c a b h =
       let C = clauseAt m c in
       let L = pick a C in
@@ -73,7 +73,7 @@ module _ (room : Room) (m : Model) (v : Valid room m) where
       )
 
   pub fork-from : (c a b : ℕ) (x : Addition) → FEx m c a b x → Fits room m x → examine room m (fork c a b) ≡ accepts x
-  unfolding tests ruleTests forkTests added forking
+  unfolding testsBy ruleTestsBy forkTests added forking
   fork-from c a b x r f =
       accept room m v (fork c a b) x
       (pass _ _ _ (eC .0) (pass _ _ _ (no-not _ cover) (pass _ _ _ apart (roomy room m v (forking m (pick a (clauseAt m c)) (pick b (clauseAt m c))) x is-x f))))

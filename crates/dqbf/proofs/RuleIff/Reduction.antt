@@ -11,7 +11,7 @@ use Rattle.dqbf.specs.Refusal.{Refusal}
 use Rattle.dqbf.specs.Literal.{Clause, _∈_, holds, without}
 use Rattle.dqbf.specs.Model.{Model, clauses, kindOf, setOf}
 use Rattle.dqbf.specs.Record.{reduction}
-use Rattle.dqbf.specs.Rules.{Addition, clauseAt, unknown, reducing, reads, reductionTests, ruleTests, added, tests}
+use Rattle.dqbf.specs.Rules.{Addition, clauseAt, unknown, reducing, reads, reductionTests, ruleTestsBy, added, tests, testsBy}
 use Rattle.dqbf.specs.Run.{accepts, examine}
 use Rattle.dqbf.specs.Valid.{Valid}
 use Rattle.dqbf.specs.Published.{Red, Fits}
@@ -35,7 +35,7 @@ module _ (room : Room) (m : Model) (v : Valid room m) where
       go h (inr w) = w
 
   pub red-to : (c : ℕ) (l : ℤ) → Refusal.first (tests room m (reduction c l)) ≡ none → Red m c l (added m (reduction c l)) × Fits room m (added m (reduction c l))
-  unfolding tests ruleTests reductionTests added reducing
+  unfolding testsBy ruleTestsBy reductionTests added reducing
   red-to c l h =
       let C = clauseAt m c in
       let t1 = passed _ _ _ h in
@@ -63,7 +63,7 @@ module _ (room : Room) (m : Model) (v : Valid room m) where
       )
 
   pub red-from : (c : ℕ) (l : ℤ) (a : Addition) → Red m c l a → Fits room m a → examine room m (reduction c l) ≡ accepts a
-  unfolding tests ruleTests reductionTests added reducing
+  unfolding testsBy ruleTestsBy reductionTests added reducing
   red-from c l a r f =
       accept room m v (reduction c l) a
       (pass _ _ _ (eC .0) (pass _ _ _ (no-not _ here) (pass _ _ _ (no-not (eqb (kindOf m (natAbs l)) 1) (rw (r .universal))) (pass _ _ _ unread (roomy room m v (reducing (clauseAt m c) l) a is-a f)))))

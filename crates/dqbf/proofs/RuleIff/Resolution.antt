@@ -11,7 +11,7 @@ use Rattle.dqbf.specs.Refusal.{Refusal}
 use Rattle.dqbf.specs.Literal.{_∈_, holds, clashes}
 use Rattle.dqbf.specs.Model.{Model, clauses}
 use Rattle.dqbf.specs.Record.{resolution}
-use Rattle.dqbf.specs.Rules.{Addition, clauseAt, unknown, resolvent, resolving, resolutionTests, ruleTests, added, tests}
+use Rattle.dqbf.specs.Rules.{Addition, clauseAt, unknown, resolvent, resolving, resolutionTest, resolutionOrder, resolutionTestsBy, ruleTestsBy, added, tests, testsBy}
 use Rattle.dqbf.specs.Run.{accepts, examine}
 use Rattle.dqbf.specs.Valid.{Valid}
 use Rattle.dqbf.specs.Published.{Res, Fits}
@@ -19,12 +19,12 @@ use Rattle.dqbf.proofs.Laws.Tests.{and-left, and-right, both, ltb-no, l
 use Rattle.dqbf.proofs.Laws.Order.{calm, in-order-ascending, in-order-same, resolvent-order}
 use Rattle.dqbf.proofs.Laws.Clauses.{holds-in, in-holds, resolvent-is}
 use Rattle.dqbf.proofs.RuleIff.Steps.{accept, pure, roomy}
-use Rattle.dqbf.proofs.Laws.Models.{there, fits-in, in-number, number-in}
+use Rattle.dqbf.proofs.Laws.Models.{there, resolvent-in-order, fits-in, in-number, number-in}
 use Rattle.dqbf.specs.Refusal as Refusal
 
 module _ (room : Room) (m : Model) (v : Valid room m) where
   pub res-to : (c d : ℕ) (p : ℤ) → Refusal.first (tests room m (resolution c d p)) ≡ none → Res m c d p (added m (resolution c d p)) × Fits room m (added m (resolution c d p))
-  unfolding tests ruleTests resolutionTests added resolving
+  unfolding testsBy ruleTestsBy resolutionTestsBy resolutionTest resolutionOrder added resolving
   res-to c d p h =
       let C = clauseAt m c in
       let D = clauseAt m d in
@@ -38,7 +38,7 @@ module _ (room : Room) (m : Model) (v : Valid room m) where
       let here = not-no (holds p C && holds (negℤ p) D) (t3 .0) in
       let inC = there m c (t1 .0) in
       let inD = there m d (t2 .0) in
-      let order = resolvent-order C D p (v .kept C inC .ascends) (v .kept D inD .ascends) in (
+      let order = resolvent-in-order room m v c d p (t1 .0) (t2 .0) in (
         record {
           C = C;
           D = D;
@@ -48,19 +48,19 @@ module _ (room : Room) (m : Model) (v : Valid room m) where
           pivot = holds-in p C (and-left (holds p C) (holds (negℤ p) D) here);
           complement = holds-in (negℤ p) D (and-right (holds p C) (holds (negℤ p) D) here);
           resolvent = resolvent-is C D p;
-          no-tautology = pure room m v C D E p inC inD (in-order-ascending E order (t5 .0)) (λ x. resolvent-is C D p x .0);
+          no-tautology = pure room m v C D E p inC inD (in-order-ascending E order (t4 .0)) (λ x. resolvent-is C D p x .0);
           in-order = order;
-          narrow = ltb-no widthLimit (length E) (t4 .0);
+          narrow = ltb-no widthLimit (length E) (t5 .0);
           adds = refl;
         },
         fits-in room m (resolving C D p) (t6 .0),
       )
 
   pub res-from : (c d : ℕ) (p : ℤ) (a : Addition) → Res m c d p a → Fits room m a → examine room m (resolution c d p) ≡ accepts a
-  unfolding tests ruleTests resolutionTests added resolving
+  unfolding testsBy ruleTestsBy resolutionTestsBy resolutionTest resolutionOrder added resolving
   res-from c d p a r f =
       accept room m v (resolution c d p) a
-      (pass _ _ _ (eC .0) (pass _ _ _ (eD .0) (pass _ _ _ (no-not _ here) (pass _ _ _ narrow (pass _ _ _ quiet (roomy room m v (resolving (clauseAt m c) (clauseAt m d) p) a is-a f))))))
+      (pass _ _ _ (eC .0) (pass _ _ _ (eD .0) (pass _ _ _ (no-not _ here) (pass _ _ _ quiet (pass _ _ _ narrow (roomy room m v (resolving (clauseAt m c) (clauseAt m d) p) a is-a f))))))
       is-a
     where
       eC : (unknown m c ≡ false) × (clauseAt m c ≡ r .C)

@@ -10,7 +10,7 @@ use Rattle.dqbf.specs.Literal.{Clause, _∈_}
 use Rattle.dqbf.specs.Model.{Model, clauses, kindOf}
 use Rattle.dqbf.specs.Record.{Record}
 use Rattle.dqbf.specs.Rules.{Addition, noRoom, added, tests}
-use Rattle.dqbf.specs.Run.{accepts, judged, examine}
+use Rattle.dqbf.specs.Run.{accepts, judged, examine, examineBy}
 use Rattle.dqbf.specs.Valid.{Ascending, Valid}
 use Rattle.dqbf.specs.Published.{Fits}
 use Rattle.dqbf.proofs.Laws.Tests.{pass}
@@ -41,5 +41,5 @@ module _ (room : Room) (m : Model) (v : Valid room m) where
   roomy b a e f = pass (refusal 25) (noRoom room m b) [] (rw e (in-fits room m a f)) refl
 
   pub accept : (r : Record) (a : Addition) → Refusal.first (tests room m r) ≡ none → added m r ≡ a → examine room m r ≡ accepts a
-  unfolding examine judged
+  unfolding examineBy judged
   accept r a h e = rw (h, e)

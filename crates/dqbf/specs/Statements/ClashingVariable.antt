@@ -11,13 +11,12 @@ use mathlib.Core.List.{List, []}
 use mathlib.Core.Option.{some}
 use Prim.Native.Nat.{ℕ, suc, _≤_}
 use lib.IntN.{ℤ, pos, negℤ}
-use lib.ListN.{length, getD}
 use Rattle.dqbf.specs.Limits.{Room}
 use Rattle.dqbf.specs.Refusal.{Refusal, refusal, naming}
 use Rattle.dqbf.specs.Literal.{Clause, _∈_, clashes, lowestClash}
 use Rattle.dqbf.specs.Model.{Model, used}
 use Rattle.dqbf.specs.Valid.{InOrder, Valid}
-use Rattle.dqbf.specs.Record.{resolution, recordOf, stretches}
+use Rattle.dqbf.specs.Record.{resolution, recordOf, recordAt}
 use Rattle.dqbf.specs.Rules.{clauseAt, resolvent}
 use Rattle.dqbf.specs.Run.{refuses, examineBytes, bad, run}
 
@@ -60,4 +59,4 @@ abbrev pub RunNamed : Type 0
 RunNamed =
     (room : Room) (m : Model) → Valid room m → (records : List ℕ) (s : ℕ) (r : Refusal) → run room m records .verdict ≡ bad s r
     → let left = run room m records .model in
-    ((s ≡ 0) × (r ≡ refusal 11)) ⊎ ((k : ℕ) × (s ≡ suc k) × Valid room left × Named left (getD (stretches (length records) records) k []) r)
+    ((s ≡ 0) × (r ≡ refusal 11)) ⊎ ((k : ℕ) × (s ≡ suc k) × Valid room left × Named left (recordAt records k) r)

@@ -1,5 +1,5 @@
 -- The marked cases of document 01 ("Formulas on the desk"): every row of the table (specs/Cases.antt) holds.
--- Beside them lines with two faults, clashing variables (document 02, Note 4), and the example of 002, section 5.
+-- Beside them lines with two faults, clashing variables (document 02, Notes 4 and 5), and the example of 002, section 5.
 use Rattle.dqbf.specs.Literal.{_∈_}
 use Rattle.dqbf.specs.Cases.{Row, Holds, marked, twoFaults, clashing, sectionFive}
 

@@ -13,18 +13,21 @@ use Rattle.dqbf.specs.Reading.{load, accepted}
 use Rattle.dqbf.specs.Model.{Model, modelOf}
 use Rattle.dqbf.specs.Valid.{Valid}
 use Rattle.dqbf.specs.Record.{Record, resolution}
-use Rattle.dqbf.specs.Rules.{Addition, unknown}
+use Rattle.dqbf.specs.Rules.{Addition, unknown, ResolutionTest, resolutionOrder}
 use Rattle.dqbf.specs.Published.{Permits, Fits}
-use Rattle.dqbf.specs.Run.{accepts, refuses, examine, Call, next}
+use Rattle.dqbf.specs.Run.{accepts, refuses, examine, Call, nextBy}
 
 -- on valid models, which are what well-formed tables hold
 abbrev pub RuleIff : Type 0
 RuleIff = (room : Room) (m : Model) → Valid room m → (r : Record) (a : Addition) → (examine room m r ≡ accepts a) ↔ (Permits m r a × Fits room m a)
 
 -- the model that a list of calls comes to
-unfoldable pub reached : Room → Model → List Call → Model
-reached room m [] = m
-reached room m (c ∷ cs) = reached room (next room m c) cs
+unfoldable pub reachedBy : List ResolutionTest → Room → Model → List Call → Model
+reachedBy order room m [] = m
+reachedBy order room m (c ∷ cs) = reachedBy order room (nextBy order room m c) cs
+
+abbrev pub reached : Room → Model → List Call → Model
+reached = reachedBy resolutionOrder
 
 -- so after any calls from an accepted load
 abbrev pub AcceptedExactly : Type 0

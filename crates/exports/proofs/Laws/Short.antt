@@ -18,8 +18,8 @@ use Rattle.dqbf.specs.Valid.{Valid}
 use Rattle.dqbf.specs.Text.{onto, pieces, isEmpty, lineFeed}
 use Rattle.dqbf.specs.Reading.{Form, comment, header, aLine, eLine, dLine, clauseLine, noForm, formOf, Phase, opening, prefixLines, clauseLines, Reader, start, lineTests, taken, Loaded, accepted, refused, atEnd, unless, readFrom, load}
 use Rattle.dqbf.specs.Record.{Record, resolution, reduction, fork, recordOf, stretches}
-use Rattle.dqbf.specs.Rules.{clauseAt, added, resolutionTests, reductionTests, forkTests, ruleTests, noRoom, tests}
-use Rattle.dqbf.specs.Run.{Examined, accepts, refuses, judged, examine, examineOr20, examineBytes, after, Verdict, refuted, open′, bad, verdictOf, goOn, runFrom, run}
+use Rattle.dqbf.specs.Rules.{clauseAt, added, resolutionTest, resolutionOrder, resolutionTestsBy, reductionTests, forkTests, ruleTestsBy, noRoom, tests, testsBy}
+use Rattle.dqbf.specs.Run.{Examined, accepts, refuses, judged, examineBy, examineOr20, examineOr20By, examineBytes, examineBytesBy, after, Verdict, refuted, open′, bad, verdictOf, goOn, runFrom, runFromBy, run, runBy}
 use Rattle.dqbf.specs.Run as Run
 use Rattle.dqbf.proofs.ClashingVariable.{clashing-variable}
 use Rattle.dqbf.proofs.SetSize.{set-size}
@@ -54,8 +54,8 @@ unfolding ShortTests
 one-more [] r c s h = (s, tt)
 one-more ((q when d) ∷ ts) r c s h = (h .0, one-more ts r c s (h .1))
 
-rule-short : (m : Model) (r : Record) → ShortTests (ruleTests m r)
-unfolding ShortTests ruleTests resolutionTests reductionTests forkTests
+rule-short : (m : Model) (r : Record) → ShortTests (ruleTestsBy resolutionOrder m r)
+unfolding ShortTests ruleTestsBy resolutionTestsBy resolutionTest resolutionOrder reductionTests forkTests
 rule-short m (resolution c d p) = (omega arith, (omega arith, (omega arith, (omega arith, (omega arith, tt)))))
 rule-short m (reduction c l) = (omega arith, (omega arith, (omega arith, (omega arith, tt))))
 rule-short m (fork c a b) = (omega arith, (omega arith, (omega arith, tt)))
@@ -70,10 +70,10 @@ judged-short m r none h = tt
 judged-short m r (some x) h = h
 
 record-short : (m : Model) (o : Option Record) → ShortExamined (examineOr20 tables m o)
-unfolding examineOr20 examine ShortExamined tests
+unfolding examineOr20By examineBy ShortExamined testsBy
 record-short m none = omega arith
 record-short m (some r) =
-    judged-short m r (first (tests tables m r)) (first-short (tests tables m r) (one-more (ruleTests m r) (refusal 25) (noRoom tables m (added m r)) (omega arith) (rule-short m r)))
+    judged-short m r (first (tests tables m r)) (first-short (tests tables m r) (one-more (ruleTestsBy resolutionOrder m r) (refusal 25) (noRoom tables m (added m r)) (omega arith) (rule-short m r)))
 
 -- ---- the variable that a refusal names
 
@@ -82,7 +82,7 @@ ShortNamed (accepts a) = Unit {0}
 ShortNamed (refuses r) = Short (r .number) × Short (namedVariable r)
 
 examine-short : (m : Model) → Valid tables m → (bytes : List ℕ) → ShortNamed (examineBytes tables m bytes)
-unfolding ShortNamed ShortExamined examineBytes
+unfolding ShortNamed ShortExamined examineBytesBy
 examine-short m v bytes = go (examineBytes tables m bytes) refl (record-short m (recordOf bytes))
   where
     go : (e : Examined) → examineBytes tables m bytes ≡ e → ShortExamined e → ShortNamed e
@@ -112,7 +112,7 @@ going-short m n rest h f (accepts a) k v = f _ v
 going-short m n rest h f (refuses r) k v = (h, k .0, k .1)
 
 from-short : (rs : List (List ℕ)) (n : ℕ) → n + length rs < 65536 → (m : Model) → Valid tables m → ShortVerdict (runFrom tables rs n m .verdict)
-unfolding runFrom Run.next
+unfolding runFromBy Run.nextBy
 from-short [] n h m v = verdict-short m v
 from-short (bytes ∷ rs) n h m v =
     going-short m (suc n) (λ m′. runFrom tables rs (suc n) m′) (omega arith) (from-short rs (suc n) (omega arith)) (examineBytes tables m bytes) (examine-short m v bytes)
@@ -125,7 +125,7 @@ stretches-few (suc n) [] = omega arith
 stretches-few (suc n) (b ∷ bytes) = let h = stretches-few n (drop recordSize (b ∷ bytes)) in omega arith
 
 pub run-short : (m : Model) → Valid tables m → (bytes : List ℕ) → ShortVerdict (run tables m bytes .verdict)
-unfolding run ShortVerdict namedVariable
+unfolding runBy ShortVerdict namedVariable
 run-short m v bytes = go (ltb recordsLimit (length bytes)) refl
   where
     go : (c : Bool) → ltb recordsLimit (length bytes) ≡ c

@@ -153,20 +153,20 @@ module _ (m : Model) (c d : ℕ) (z : ℤ) (known : unknown m c ≡ false) (know
 
   pub resolution-tested : examine tables m (resolution c d z) ≡ tested m (join A B)
   unfolding tested fitted resolvent resolving
-  resolution-tested = wide (ltb widthLimit (length (join A B))) refl
+  resolution-tested = calm (clashes (join A B)) refl
     where
-      room : (b : Bool) → noRoom tables m (One (join A B)) ≡ b → ltb widthLimit (length (join A B)) ≡ false → clashes (join A B) ≡ false
+      room : (b : Bool) → noRoom tables m (One (join A B)) ≡ b → clashes (join A B) ≡ false → ltb widthLimit (length (join A B)) ≡ false
           → examine tables m (resolution c d z) ≡ tested m (join A B)
-      room true e n k = rw (n, k, e) (resolution-25 tables m c d z known known′ held n k e)
-      room false e n k = rw (n, k, e) (resolution-accepted tables m c d z known known′ held n k e)
+      room true e k n = rw (k, n, e) (resolution-25 tables m c d z known known′ held k n e)
+      room false e k n = rw (k, n, e) (resolution-accepted tables m c d z known known′ held k n e)
 
-      calm : (b : Bool) → clashes (join A B) ≡ b → ltb widthLimit (length (join A B)) ≡ false → examine tables m (resolution c d z) ≡ tested m (join A B)
-      calm true e n = rw (n, e) (resolution-23 tables m c d z known known′ held n e)
-      calm false e n = room (noRoom tables m (One (join A B))) refl n e
+      wide : (b : Bool) → ltb widthLimit (length (join A B)) ≡ b → clashes (join A B) ≡ false → examine tables m (resolution c d z) ≡ tested m (join A B)
+      wide true e k = rw (k, e) (resolution-24 tables m c d z known known′ held k e)
+      wide false e k = room (noRoom tables m (One (join A B))) refl k e
 
-      wide : (b : Bool) → ltb widthLimit (length (join A B)) ≡ b → examine tables m (resolution c d z) ≡ tested m (join A B)
-      wide true e = rw e (resolution-24 tables m c d z known known′ held e)
-      wide false e = calm (clashes (join A B)) refl e
+      calm : (b : Bool) → clashes (join A B) ≡ b → examine tables m (resolution c d z) ≡ tested m (join A B)
+      calm true e = rw e (resolution-23 tables m c d z known known′ held e)
+      calm false e = wide (ltb widthLimit (length (join A B))) refl e
 
 module _ (t : Tables) (s : State) (h : Holding t s) (c d : ℕ) (z : ℤ) {f g : Bool} (told : f ≡ isUnknown s c) (told′ : g ≡ isUnknown s d) where
   abbrev E : Examined

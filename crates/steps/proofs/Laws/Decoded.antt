@@ -7,7 +7,7 @@ use Rattle.dqbf.specs.Limits.{tables}
 use Rattle.dqbf.specs.Refusal.{refusal}
 use Rattle.dqbf.specs.Model.{Model}
 use Rattle.dqbf.specs.Record.{recordOf}
-use Rattle.dqbf.specs.Run.{refuses, examine, examineOr20, examineBytes}
+use Rattle.dqbf.specs.Run.{refuses, examine, examineOr20By, examineBytes, examineBytesBy}
 use Rattle.records.specs.Record.{stepIn, decodedIn}
 use Rattle.records.specs.declared.Step.{Step}
 use Rattle.records.specs.declared.Decoded.{Decoded}
@@ -21,11 +21,11 @@ use Rattle.additions.proofs.Laws.Adding.{after-refused}
 
 -- a decoded record is the calculus'
 decoded-step : (m : Model) (bytes : List ℕ) {d : Decoded} (s : Step) → decodedIn d ≡ recordOf bytes → d ≡ Decoded.Step s → examineBytes tables m bytes ≡ examine tables m (stepIn s)
-unfolding examineBytes examineOr20 decodedIn
+unfolding examineBytesBy examineOr20By decodedIn
 decoded-step m bytes s e q = rw (← e, q)
 
 decoded-malformed : (m : Model) (bytes : List ℕ) {d : Decoded} → decodedIn d ≡ recordOf bytes → d ≡ Decoded.Malformed → examineBytes tables m bytes ≡ refuses (refusal 20)
-unfolding examineBytes examineOr20 decodedIn
+unfolding examineBytesBy examineOr20By decodedIn
 decoded-malformed m bytes e q = rw (← e, q)
 
 module _ (t : Tables) (s : State) (h : Holding t s) (bytes : List ℕ) {d : Decoded} (read : decodedIn d ≡ recordOf bytes) where
