@@ -11,8 +11,8 @@
  * Results. A result has four 16-bit fields, the lowest first: the case, which is never 0, and up to three values; a field without a value is 0. Too few bytes in
  * a buffer is refusal 1; nothing is changed then, except that a load zeroes a state of 16 bytes or more. An output shorter than its text is refusal 30.
  *
- * Stack. No call uses the heap or recursion. A load was measured to use 91,856 bytes of stack, a run 26,032, a question or a shown clause 25,728, a write
- * 26,096 (docs/PERFORMANCE.md): give a thread at least 128 KB of stack. */
+ * Stack. No call uses the heap or recursion. A load was measured to use 104,928 bytes of stack, a run 38,416, a question or a shown clause 38,064, a write
+ * 39,232 (docs/PERFORMANCE.md): give a thread at least 160 KB of stack. */
 #ifndef KEFTHRUN_H
 #define KEFTHRUN_H
 
@@ -20,16 +20,16 @@
 #include <stdint.h>
 
 /* The number of this interface: one higher with each change of a function, a buffer's size or the fields of a result. */
-#define KEFTHRUN_INTERFACE 3u
+#define KEFTHRUN_INTERFACE 4u
 
 /* Sizes of the buffers, in bytes. */
 enum {
     KEFTHRUN_LITERAL_BYTES = 16384, /* 8,192 signed literals of 16 bits */
     KEFTHRUN_END_BYTES = 4096,      /* 2,048 clause ends of 16 bits */
-    KEFTHRUN_SET_BYTES = 4096,      /* 512 dependency sets of 64 bits */
+    KEFTHRUN_SET_BYTES = 16384,     /* 512 dependency sets of four 64-bit words, lowest bits first: bit i for the universal declared as number i + 1 */
     KEFTHRUN_KIND_BYTES = 512,      /* 512 kinds */
     KEFTHRUN_STATE_BYTES = 16,
-    KEFTHRUN_TIDY_BYTES = 163840 /* an output of this many bytes is long enough for every formula */
+    KEFTHRUN_TIDY_BYTES = 311296 /* an output of this many bytes is long enough for every formula */
 };
 
 /* The cases of a result: of a load, of a run, of a question, a shown clause or a write. */
@@ -46,7 +46,7 @@ enum {
     KEFTHRUN_NOT_WELL_FORMED = 2, /* the tables are not well formed */
 
     KEFTHRUN_NO_FORM = 10,                 /* a line has no form of the format, or stands out of order; the header is missing */
-    KEFTHRUN_OVER_LIMIT = 11,              /* over a limit of the text; more than 32,768 bytes of records */
+    KEFTHRUN_OVER_LIMIT = 11,              /* over a limit of the text, such as 256 universals; more than 32,768 bytes of records */
     KEFTHRUN_VARIABLE = 12,                /* above V, declared twice, or used undeclared; a set member that is no earlier universal */
     KEFTHRUN_COMPLEMENTARY_IN_CLAUSE = 13, /* complementary literals in a clause */
     KEFTHRUN_CLAUSE_COUNT = 14,            /* the number of clauses is not C */

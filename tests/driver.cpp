@@ -142,6 +142,17 @@ static std::string numbers(unsigned first, unsigned last) {
     return all;
 }
 
+// Universals of three digits, which all other variables see: a length above 16 bits.
+static void full_sets(Buffers &b, unsigned universals, size_t length) {
+    const unsigned others = 512 - universals;
+    const std::string members = numbers(others + 1, 512), start = "p cnf 512 0\na " + members + "0\n";
+    expect("an e line", b.load(start + "e " + numbers(1, others) + "0\n") == packed(1, 0, 0));
+    std::string all = start;
+    for (unsigned x = 1; x <= others; x++) all += "d " + std::to_string(x) + " " + members + "0\n";
+    expect("the length of full sets", all.size() == length);
+    written(b, all);
+}
+
 static void texts() {
     Buffers b;
     expect("an untidy text", b.load("c x\np  cnf 5 3\na 4 0\ne 2 0\nd 5 4 4 0\na 3 1 0\n2  -5 2 0\n0\n-4 -2 0\n") == packed(1, 0, 0));
@@ -154,17 +165,67 @@ static void texts() {
     expect("a text", b.load(forked) == packed(1, 0, 0));
     expect("a fork", b.run(record(3, 1, 1, 2)) == packed(2, 1, 0));
     written(b, forked);
-    // The longest sets: 64 universals of three digits, which 448 existentials see.
-    const std::string universals = "a " + numbers(449, 512) + "0\n";
-    expect("an e line", b.load("p cnf 512 0\n" + universals + "e " + numbers(1, 448) + "0\n") == packed(1, 0, 0));
-    std::string all = "p cnf 512 0\n" + universals;
-    for (unsigned x = 1; x <= 448; x++) all += "d " + std::to_string(x) + " " + numbers(449, 512) + "0\n";
-    expect("a length above 16 bits", all.size() == 118436);
-    written(b, all);
-    expect("a refused text", b.load(all) == packed(4, 0, KEFTHRUN_OVER_LIMIT));
+    full_sets(b, 64, 118436);
+    full_sets(b, 256, 265124);
+    expect("a refused text", b.load(std::string(32769, 'c')) == packed(4, 0, KEFTHRUN_OVER_LIMIT));
     written(b, "p cnf 0 0\n");
     b[3].data()[0] = 9;
     not_written(b, KEFTHRUN_NOT_WELL_FORMED);
+}
+
+// The word of a variable's set, from 0 on.
+static uint64_t word(Buffers &b, unsigned variable, unsigned word) {
+    const uint8_t *bytes = b[2].data() + 32 * (variable - 1) + 8 * word;
+    uint64_t bits = 0;
+    for (unsigned i = 0; i < 8; i++) bits |= static_cast<uint64_t>(bytes[i]) << 8 * i;
+    return bits;
+}
+
+// A set of at most one universal, counted from 0; none: 256.
+static bool is_single(Buffers &b, unsigned variable, unsigned place) {
+    for (unsigned w = 0; w < 4; w++)
+        if (word(b, variable, w) != (place / 64 == w ? uint64_t{1} << place % 64 : 0)) return false;
+    return true;
+}
+
+static const std::string wide_formula = "p cnf 258 2\na " + numbers(1, 256) + "0\nd 257 1 200 0\nd 258 200 256 0\n257 258 0\n200 -258 0\n";
+
+// Sets of four words.
+static void wide_sets() {
+    static_assert(KEFTHRUN_SET_BYTES == 16384 && KEFTHRUN_TIDY_BYTES == 311296 && KEFTHRUN_INTERFACE == 4, "Note 6");
+    Buffers b;
+    expect("256 universals", b.load(wide_formula) == packed(1, 0, 0));
+    for (unsigned x : {1u, 64u, 65u, 128u, 129u, 192u, 193u, 256u}) expect("a universal's bit", is_single(b, x, x - 1));
+    expect("two sets", b.ask(kefthrun_variable, 257) == packed(1, 2, 2) && b.ask(kefthrun_variable, 258) == packed(1, 2, 2));
+    expect("{1, 200}", word(b, 257, 0) == 1 && word(b, 257, 1) == 0 && word(b, 257, 2) == 0 && word(b, 257, 3) == 1u << 7);
+    expect("no variable 259", is_single(b, 259, 256) && b.ask(kefthrun_variable, 259) == packed(2, 22, 0));
+    expect("a fork", b.run(record(3, 1, 1, 2)) == packed(2, 1, 0));
+    expect("its set is {200}", is_single(b, 259, 199) && b.ask(kefthrun_variable, 259) == packed(1, 3, 1));
+    expect("{200, -259}", b.run(record(1, 4, 2, 258)) == packed(2, 2, 0));
+    expect("200 is seen", b.run(record(2, 5, 0, 200)) == packed(3, 1, KEFTHRUN_READ_BY_ANOTHER));
+    b[2].data()[32 * 258 + 31] = 128;
+    expect("256 is no universal of its set, but may be", b.ask(kefthrun_variable, 259) == packed(1, 3, 2));
+    b[2].data()[32 * 259 + 31] = 1;
+    not_written(b, KEFTHRUN_NOT_WELL_FORMED);
+    for (const char *last : {"257", "300", "301", "99999"})
+        expect("257 universals", b.load("p cnf 300 0\na " + numbers(1, 256) + last + " 0\n") == packed(4, 2, KEFTHRUN_OVER_LIMIT));
+    expect("256, one of them twice", b.load("p cnf 300 0\na " + numbers(1, 256) + "256 0\n") == packed(4, 2, KEFTHRUN_VARIABLE));
+    for (int i = 0; i < 5; i++) expect("leaves zeros", b[i].bytes() == std::vector<uint8_t>(sizes[i], 0));
+    expect("guards", b.guards_stand());
+}
+
+// Sets buffers of other lengths: of 2,048 words and one to three more, or a set more, and of less.
+static void set_lengths() {
+    for (int more : {8, 16, 24, 32, 64}) {
+        Buffers b(2, more);
+        expect("256 universals", b.load(wide_formula) == packed(1, 0, 0) && b.run(record(3, 1, 1, 2)) == packed(2, 1, 0));
+        expect("words behind stay", b[2].fresh_from(KEFTHRUN_SET_BYTES));
+        expect("a refused text", b.load("p cnf 1\n") == packed(4, 1, 10) && b[2].fresh_from(KEFTHRUN_SET_BYTES));
+    }
+    for (int less : {1, 8, 32, 16384 - 4096}) {
+        Buffers b(2, -less);
+        expect("too short", b.load(wide_formula) == packed(4, 0, 1) && b[2].fresh_from(0));
+    }
 }
 
 // Resolutions of clause 1 and another one on a literal: the lowest variable that the resolvent holds in both signs.
@@ -323,19 +384,35 @@ static void texts_in_cpp() {
         thrown = true;
     }
     expect("a null output with a length", thrown);
-    const std::string sets = "p cnf 512 0\na " + numbers(449, 512) + "0\ne " + numbers(1, 448) + "0\n";
+    const std::string sets = "p cnf 512 0\na " + numbers(257, 512) + "0\ne " + numbers(1, 256) + "0\n";
     expect("an e line", is(checker.load(reinterpret_cast<const uint8_t *>(sets.data()), sets.size()), KEFTHRUN_LOAD_ACCEPTED, 0, 0));
-    expect("a long text", checker.text().size() == 118436 && checker.write(nullptr, 0).first == KEFTHRUN_OUTPUT_TOO_SHORT);
+    expect("a long text", checker.text().size() == 265124 && checker.write(nullptr, 0).first == KEFTHRUN_OUTPUT_TOO_SHORT);
     expect("no text", is(checker.load(nullptr, 0), KEFTHRUN_LOAD_REFUSED, 1, KEFTHRUN_NO_FORM));
     expect("the text after a refused load", checker.text() == "p cnf 0 0\n");
 }
 
+// The class: 256 universals and no more.
+static void wide_sets_in_cpp() {
+    kefthrun::Checker checker;
+    expect("256 universals", is(checker.load(reinterpret_cast<const uint8_t *>(wide_formula.data()), wide_formula.size()), KEFTHRUN_LOAD_ACCEPTED, 0, 0));
+    expect("universal 256", is(checker.variable(256), KEFTHRUN_ANSWERED, KEFTHRUN_KIND_UNIVERSAL, 1));
+    expect("a fork", is(checker.run(record(3, 1, 1, 2).data(), 16), KEFTHRUN_RUN_OPEN, 1, 0));
+    expect("its set is {200}", is(checker.variable(259), KEFTHRUN_ANSWERED, KEFTHRUN_KIND_FORK, 1));
+    expect("its clauses", checker.literals(3) == std::vector<int>({257, 259}) && checker.literals(4) == std::vector<int>({258, -259}));
+    expect("the text", checker.text() == wide_formula);
+    const std::string more = "p cnf 300 0\na " + numbers(1, 257) + "0\n";
+    expect("257 universals", is(checker.load(reinterpret_cast<const uint8_t *>(more.data()), more.size()), KEFTHRUN_LOAD_REFUSED, 2, KEFTHRUN_OVER_LIMIT));
+}
+
 int main() {
     whole();
+    wide_sets();
+    set_lengths();
     clashes();
     texts();
     class_in_cpp();
     texts_in_cpp();
+    wide_sets_in_cpp();
     for (int i = 0; i < 5; i++) {
         brief(i);
         longer(i);

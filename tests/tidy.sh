@@ -65,18 +65,31 @@ tidied "$out/nothing in use"
 commented 32758 >"$out/longest"
 tidied "$out/longest"
 
-# An `e` line becomes a `d` line for each variable: a text above the limit of a load.
-{
-    printf 'p cnf 512 0\na '
-    seq -s ' ' 449 512 | tr '\n' ' '
-    printf '0\ne '
-    seq -s ' ' 1 448 | tr '\n' ' '
-    printf '0\n'
-} >"$out/long"
-same "$out/long"
-[ "$(wc -c <"$out/printed")" -gt 100000 ] || fail "the length of a long text"
-cp "$out/printed" "$out/longer"
-printed "$out/longer" "formula 0 11"
+# An `e` line becomes a `d` line for each variable: a text above the limit of a load, with 64 universals and with 256.
+for existentials in 448 256; do
+    {
+        printf 'p cnf 512 0\na '
+        seq -s ' ' "$((existentials + 1))" 512 | tr '\n' ' '
+        printf '0\ne '
+        seq -s ' ' 1 "$existentials" | tr '\n' ' '
+        printf '0\n'
+    } >"$out/long"
+    same "$out/long"
+    [ "$(wc -c <"$out/printed")" -gt 100000 ] || fail "the length of a long text"
+    cp "$out/printed" "$out/longer"
+    printed "$out/longer" "formula 0 11"
+done
+
+# 256 universals and no more.
+for universals in 256 257; do
+    {
+        printf 'p cnf 300 0\na '
+        seq -s ' ' 1 "$universals" | tr '\n' ' '
+        printf '0\n'
+    } >"$out/universals $universals"
+done
+tidied "$out/universals 256"
+printed "$out/universals 257" "formula 2 11"
 
 commented 32759 >"$out/too long"
 printed "$out/too long" "formula 0 11"

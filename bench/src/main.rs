@@ -40,18 +40,19 @@ fn compared(work: &Work) {
 fn comparisons() {
     println!("| call | bytes or records | library, µs | lean, µs | reference, µs | to lean | to reference |");
     println!("|---|---|---|---|---|---|---|");
-    let lists = work::lists();
+    let (lists, wide_lists) = (work::lists(), work::wide_lists());
     for work in work::loads().iter().chain(&random::loads()) {
         compared(work);
     }
-    for list in &lists {
+    for list in lists.iter().chain(&wide_lists) {
         compared(&list.run(list.most));
     }
     for work in &random::runs() {
         compared(work);
     }
-    for work in lists[0].single() {
-        compared(&work);
+    let single = lists[0].single("full tables");
+    for work in single.iter().chain(&wide_lists[1].single("256 universals")) {
+        compared(work);
     }
     for work in work::writes().iter().chain(&random::writes()) {
         compared(work);
@@ -89,7 +90,8 @@ fn growth(list: &List) -> bool {
 fn growths() -> bool {
     println!("\n| list | none: µs | an eighth: µs | a quarter: µs | half: µs | whole: µs | whole to half |");
     println!("|---|---|---|---|---|---|---|");
-    let linear: Vec<bool> = work::lists().iter().map(growth).collect();
+    let lists = [work::lists(), work::wide_lists()].concat();
+    let linear: Vec<bool> = lists.iter().map(growth).collect();
     linear.iter().all(|&each| each)
 }
 
@@ -98,10 +100,10 @@ fn stacks() {
     println!("|---|---|---|");
     let mut loads = work::loads();
     loads.extend(random::loads());
-    let lists = work::lists();
+    let lists = [work::lists(), work::wide_lists()].concat();
     let mut runs: Vec<Work> = lists.iter().map(|list| list.run(list.most)).collect();
     runs.extend(random::runs());
-    let single = lists[0].single();
+    let single = lists[0].single("full tables");
     let mut writes = work::writes();
     writes.extend(random::writes());
     for (name, works) in [

@@ -16,8 +16,9 @@ const INPUTS: usize = 101;
 
 const SEED: u64 = 20_261_116;
 
-/// The universals of every formula are 1 to 64.
+/// The universals of a formula are 1 to 64, or to 256 where the name says so.
 const UNIVERSALS: usize = 64;
+const MOST_UNIVERSALS: usize = 256;
 
 fn work(name: String, input: impl Fn(&mut Random) -> Input) -> Work {
     let random = |index| Random::for_case(SEED, index as u64);
@@ -62,21 +63,22 @@ fn clauses(prefix: &str, random: &mut Random, clause: impl Fn(&mut Random) -> Ve
 }
 
 /// As many existentials with random sets as there is room for.
-fn random_sets(random: &mut Random) -> String {
-    sets_of(random, (1..=UNIVERSALS as i32).collect())
+fn random_sets(random: &mut Random, universals: usize) -> String {
+    sets_of(random, (1..=universals as i32).collect())
 }
 
 /// The same with the universals declared in no order.
-fn random_sets_and_bits(random: &mut Random) -> String {
-    let universals = some(random, UNIVERSALS, UNIVERSALS);
+fn random_sets_and_bits(random: &mut Random, universals: usize) -> String {
+    let universals = some(random, universals, universals);
     sets_of(random, universals)
 }
 
 fn sets_of(random: &mut Random, universals: Vec<i32>) -> String {
+    let count = universals.len();
     let mut text = format!("p cnf 512 0\na {} 0\n", joined(universals));
-    for existential in 65..=512 {
-        let members = random.below(UNIVERSALS + 1);
-        let set = some(random, UNIVERSALS, members);
+    for existential in count as i32 + 1..=512 {
+        let members = random.below(count + 1);
+        let set = some(random, count, members);
         let words = [existential].into_iter().chain(set).chain([0]);
         let line = format!("d {}\n", joined(words));
         if text.len() + line.len() <= TEXT_LIMIT {
@@ -125,9 +127,11 @@ pub fn loads() -> Vec<Work> {
             clause
         },
     ));
-    works.push(work("load, random sets".into(), |random| {
-        Input::load(random_sets(random))
-    }));
+    for (name, universals) in [("", UNIVERSALS), (", 256 universals", MOST_UNIVERSALS)] {
+        works.push(work(format!("load, random sets{name}"), |random| {
+            Input::load(random_sets(random, universals))
+        }));
+    }
     works
 }
 
@@ -142,40 +146,64 @@ fn write_of_clauses(literals: usize) -> Work {
 }
 
 pub fn writes() -> Vec<Work> {
-    vec![
-        write_of_clauses(4),
-        write_of_clauses(32),
-        work("write, random sets".into(), |random| {
-            Input::write(&random_sets(random))
-        }),
-        work(
-            "write, random sets, universals in no order".into(),
-            |random| Input::write(&random_sets_and_bits(random)),
-        ),
-    ]
+    let mut works = vec![write_of_clauses(4), write_of_clauses(32)];
+    for (name, universals) in [("", UNIVERSALS), (", 256 universals", MOST_UNIVERSALS)] {
+        works.push(work(format!("write, random sets{name}"), |random| {
+            Input::write(&random_sets(random, universals))
+        }));
+        let name = match name {
+            "" => "universals".into(),
+            _ => format!("{universals} universals"),
+        };
+        works.push(work(
+            format!("write, random sets, {name} in no order"),
+            |random| Input::write(&random_sets_and_bits(random, universals)),
+        ));
+    }
+    works
 }
 
-/// In the formulas of the runs the existentials are 65 to 128. Each variable has one
-/// sign in all clauses but those of the pivots, of which every clause has one: so
-/// two clauses with a complementary pivot have a resolvent.
-const PIVOTS: RangeInclusive<i32> = 65..=72;
+/// In the formulas of the runs 64 existentials follow the universals; the first are
+/// the pivots. Each variable has one sign in all clauses but those of the pivots, of
+/// which every clause has one: so two clauses with a complementary pivot have a
+/// resolvent.
+fn pivots(universals: usize) -> RangeInclusive<i32> {
+    universals as i32 + 1..=universals as i32 + 8
+}
 
-/// A formula with so many clauses, whose literals are as many as `widths` tells.
-fn formula(random: &mut Random, clauses: usize, widths: (usize, usize)) -> String {
-    let mut text = format!("p cnf 128 {clauses}\na {} 0\n", joined(1..=UNIVERSALS));
-    for existential in 65..=128 {
-        let set = some(random, UNIVERSALS, 3);
+/// How large a formula of the runs is: universals, members of each set, clauses,
+/// and the least and the greatest number of their literals.
+#[derive(Clone, Copy)]
+struct Size {
+    universals: usize,
+    members: usize,
+    clauses: usize,
+    widths: (usize, usize),
+}
+
+fn formula(random: &mut Random, size: Size) -> String {
+    let Size {
+        universals,
+        clauses,
+        widths,
+        ..
+    } = size;
+    let last = universals + 64;
+    let pivots = pivots(universals);
+    let mut text = format!("p cnf {last} {clauses}\na {} 0\n", joined(1..=universals));
+    for existential in universals + 1..=last {
+        let set = some(random, universals, size.members);
         text += &format!("d {existential} {} 0\n", joined(set));
     }
     for _ in 0..clauses {
         let literals = random.between(widths.0, widths.1);
-        let mut clause = some(random, 128, 128);
-        clause.retain(|variable| !PIVOTS.contains(variable));
+        let mut clause = some(random, last, last);
+        clause.retain(|variable| !pivots.contains(variable));
         clause.truncate(literals - 1);
         for literal in clause.iter_mut().filter(|literal| **literal % 3 == 0) {
             *literal = -*literal;
         }
-        let pivots: Vec<i32> = PIVOTS.collect();
+        let pivots: Vec<i32> = pivots.clone().collect();
         clause.push(random.pick(&pivots) * random.pick(&[1, -1]));
         text += &format!("{} 0\n", joined(clause));
     }
@@ -192,7 +220,8 @@ type Propose = fn(&mut Random, &State, clauses: usize) -> Step;
 fn resolve(random: &mut Random, state: &State, clauses: usize) -> Step {
     let [first, second] = [0; 2].map(|_| random.between(1, clauses) as u32);
     let mut literals = numbers(state, first).into_iter();
-    let pivot = literals.find(|literal| PIVOTS.contains(&literal.abs()));
+    let pivots = pivots(state.universals().len());
+    let pivot = literals.find(|literal| pivots.contains(&literal.abs()));
     resolution(first, second, pivot.expect("a pivot"))
 }
 
@@ -246,27 +275,59 @@ fn run(text: &str, steps: &[Step]) -> Input {
     }
 }
 
-pub fn runs() -> Vec<Work> {
-    let rules: [(&str, Propose); 3] = [
-        ("resolutions", resolve),
-        ("reductions", reduce),
-        ("forks", fork),
-    ];
-    let mut works = Vec::new();
-    for (few, clauses, widths) in [("2 to 8", 256, (2, 8)), ("9 to 20", 96, (9, 20))] {
-        for (rule, propose) in rules {
-            let name = format!("random {rule} on clauses of {few} literals");
-            works.push(work(name, |random| {
-                let text = formula(random, clauses, widths);
-                let steps = steps(random, &text, propose);
-                run(&text, &steps)
-            }));
-        }
-    }
-    works.push(work("random steps of all kinds".into(), |random| {
-        let text = formula(random, 64, (2, 8));
+const RULES: [(&str, Propose); 3] = [
+    ("resolutions", resolve),
+    ("reductions", reduce),
+    ("forks", fork),
+];
+
+/// Random steps by each rule on formulas of a size.
+fn runs_on(size: Size, ending: &str) -> Vec<Work> {
+    let (least, most) = size.widths;
+    let by_rules = RULES.map(|(rule, propose)| {
+        let name = format!("random {rule} on clauses of {least} to {most} literals{ending}");
+        work(name, |random| {
+            let text = formula(random, size);
+            let steps = steps(random, &text, propose);
+            run(&text, &steps)
+        })
+    });
+    by_rules.into()
+}
+
+fn run_of_all_kinds(size: Size, ending: &str) -> Work {
+    work(format!("random steps of all kinds{ending}"), |random| {
+        let text = formula(random, size);
         let steps = wander(random, &text);
         run(&text, &steps)
-    }));
+    })
+}
+
+pub fn runs() -> Vec<Work> {
+    let short = Size {
+        universals: UNIVERSALS,
+        members: 3,
+        clauses: 256,
+        widths: (2, 8),
+    };
+    let longer = Size {
+        clauses: 96,
+        widths: (9, 20),
+        ..short
+    };
+    let wide = Size {
+        universals: MOST_UNIVERSALS,
+        members: 12,
+        ..short
+    };
+    let few = |size| Size {
+        clauses: 64,
+        ..size
+    };
+    let mut works = runs_on(short, "");
+    works.extend(runs_on(longer, ""));
+    works.push(run_of_all_kinds(few(short), ""));
+    works.extend(runs_on(wide, ", 256 universals"));
+    works.push(run_of_all_kinds(few(wide), ", 256 universals"));
     works
 }

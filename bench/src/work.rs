@@ -21,6 +21,7 @@ pub struct Work {
 }
 
 /// A formula and a list of equal records on it, as many as there is room for.
+#[derive(Clone)]
 pub struct List {
     pub name: &'static str,
     text: String,
@@ -112,11 +113,11 @@ fn falling_clauses() -> String {
 /// The most bytes of a text.
 pub const TEXT_LIMIT: usize = 32_768;
 
-/// 64 universals and sets of 64 members, no clause; a comment in front fills the text up to its limit.
-fn large_sets() -> String {
-    let mut text = format!("p cnf 512 0\na {} 0\n", joined(1..=64));
-    for existential in 65..=512 {
-        let line = format!("d {existential} {} 0\n", joined(1..=64));
+/// So many universals and sets of all of them, no clause; a comment in front fills the text up to its limit.
+fn large_sets(universals: usize) -> String {
+    let mut text = format!("p cnf 512 0\na {} 0\n", joined(1..=universals));
+    for existential in universals + 1..=512 {
+        let line = format!("d {existential} {} 0\n", joined(1..=universals));
         if text.len() + line.len() + "c\n".len() <= TEXT_LIMIT {
             text += &line;
         }
@@ -132,16 +133,17 @@ pub fn loads() -> Vec<Work> {
             "load, 256 clauses of 32 literals, falling",
             falling_clauses(),
         ),
-        ("load, sets of 64 universals", large_sets()),
+        ("load, sets of 64 universals", large_sets(64)),
+        ("load, sets of 256 universals", large_sets(256)),
     ];
     let works = texts.map(|(name, text)| Work::one(name, Input::load(text)));
     works.into()
 }
 
-/// 64 universals and 448 existentials that see them all.
-fn full_sets() -> String {
-    let (universals, existentials) = (joined(1..=64), joined(65..=512));
-    format!("p cnf 512 0\na {universals} 0\ne {existentials} 0\n")
+/// So many universals; all others are existentials that see them all.
+fn full_sets(universals: usize) -> String {
+    let (named, existentials) = (joined(1..=universals), joined(universals + 1..=512));
+    format!("p cnf 512 0\na {named} 0\ne {existentials} 0\n")
 }
 
 pub fn writes() -> Vec<Work> {
@@ -149,21 +151,25 @@ pub fn writes() -> Vec<Work> {
     let texts = [
         ("write, 2,048 clauses of 4 literals", short_clauses()),
         ("write, 256 clauses of 32 literals", falling_clauses()),
-        ("write, 448 sets of 64 universals", full_sets()),
+        ("write, 448 sets of 64 universals", full_sets(64)),
+        ("write, 256 sets of 256 universals", full_sets(256)),
         ("write, a small formula", small.into()),
     ];
     let works = texts.map(|(name, text)| Work::one(name, Input::write(&text)));
     works.into()
 }
 
-pub fn lists() -> Vec<List> {
-    let wide = joined(2..=32);
-    let list = |name, text: String, record, most| List {
+fn list(name: &'static str, text: String, record: Words, most: usize) -> List {
+    List {
         name,
         text,
         record,
         most,
-    };
+    }
+}
+
+pub fn lists() -> Vec<List> {
+    let wide = joined(2..=32);
     vec![
         list(
             "resolutions to 3 literals",
@@ -204,6 +210,34 @@ pub fn lists() -> Vec<List> {
     ]
 }
 
+/// Lists on formulas with 256 universals, whose sets have bits in all words.
+pub fn wide_lists() -> Vec<List> {
+    let universals = joined(1..=256);
+    let every_eighth = joined((1..=32).map(|number| 8 * number));
+    let wide = format!("p cnf 256 1\na {universals} 0\n{every_eighth} 0\n");
+    let sets = "d 257 1 65 129 193 0\nd 258 64 128 192 256 0\n";
+    vec![
+        list(
+            "reductions of 32 literals, 256 universals",
+            wide.clone(),
+            (2, [1, 0, 256]),
+            263,
+        ),
+        list(
+            "forks of 2 literals, 256 universals",
+            format!("p cnf 258 1\na {universals} 0\n{sets}257 258 0\n"),
+            (3, [1, 1, 2]),
+            254,
+        ),
+        list(
+            "forks of 32 literals, 256 universals",
+            wide,
+            (3, [1, 0xFFFF, 0xFFFF_0000]),
+            240,
+        ),
+    ]
+}
+
 /// The buffers of a loaded formula.
 pub fn loaded(text: &str) -> Buffers {
     let mut buffers = Buffers::zero();
@@ -222,22 +256,19 @@ impl List {
     }
 
     /// A run of one record, and the three questions, on tables that the others filled.
-    pub fn single(&self) -> [Work; 4] {
+    pub fn single(&self, tables: &str) -> [Work; 4] {
         let mut full = loaded(&self.text);
         full.run(&bytes_of(&vec![self.record; self.most - 1]));
         let work = |name, call| {
             let start = full.clone();
-            Work::one(name, Input { start, call })
+            Work::one(&format!("{name}, {tables}"), Input { start, call })
         };
         let last = self.most as u32;
         [
-            work(
-                "run of one record, full tables",
-                Call::Run(bytes_of(&[self.record])),
-            ),
-            work("show, full tables", Call::Show(last)),
-            work("length of a clause, full tables", Call::Clause(last)),
-            work("kind of a variable, full tables", Call::Variable(1)),
+            work("run of one record", Call::Run(bytes_of(&[self.record]))),
+            work("show", Call::Show(last)),
+            work("length of a clause", Call::Clause(last)),
+            work("kind of a variable", Call::Variable(1)),
         ]
     }
 }

@@ -10,6 +10,7 @@ use joins::Joined;
 use tables::State;
 use tables::adding;
 ghost use mathlib.Core.Path.{_≡_};
+ghost use Rattle.sets.specs.Words.{asSet};
 ghost use Rattle.tables.specs.Tables.{tablesOf, modelIn};
 ghost use mathlib.Core.List.{[], _∷_, _++_};
 ghost use lib.IntN.{pos, negsuc};
@@ -148,7 +149,7 @@ pub struct Split {
     pub right: u32,
     pub first: usize,
     pub second: usize,
-    pub set: u64,
+    pub set: [u64; 4],
 }
 
 // The two parts of a fork as new clauses, with the new variable.
@@ -164,7 +165,7 @@ pub fn add_parts(
     requires { ⌜ Holding (tablesOf (now literals) (now ends) (now sets) (now kinds)) state × Splits (now clause) split ⌝ }
     ensures { λ r. ⌜ After (tablesOf (now (literals .entry)) (now (ends .entry)) (now (sets .entry)) (now (kinds .entry))) state
         (fitted (modelIn (tablesOf (now (literals .entry)) (now (ends .entry)) (now (sets .entry)) (now (kinds .entry))) state)
-        (Two (pick (split .left) (now (clause .entry)) ++ (pos (suc (state .variables .0)) ∷ [])) (pick (split .right) (now (clause .entry)) ++ (negsuc (state .variables .0) ∷ [])) (split .set)))
+        (Two (pick (split .left) (now (clause .entry)) ++ (pos (suc (state .variables .0)) ∷ [])) (pick (split .right) (now (clause .entry)) ++ (negsuc (state .variables .0) ∷ [])) (asSet (split .set))))
         (tablesOf (now (literals .exit)) (now (ends .exit)) (now (sets .exit)) (now (kinds .exit))) r ⌝ }
 {
     let first = split.first + 1;
@@ -182,15 +183,8 @@ pub fn add_parts(
         split.right,
         variable,
     );
-    let next = adding::add_fork(
-        ends,
-        sets,
-        kinds,
-        state,
-        first as u16,
-        second as u16,
-        split.set,
-    );
+    let set = split.set;
+    let next = adding::add_fork(ends, sets, kinds, state, first as u16, second as u16, set);
     let answer = StepAnswer::Accepted;
     Stepped {
         state: next,

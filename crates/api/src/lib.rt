@@ -22,6 +22,7 @@ pub use questions::VariableAnswer;
 pub use questions::clause_length;
 pub use questions::show;
 pub use questions::variable;
+pub use sets::TABLE_WORDS;
 pub use steps::Ran;
 pub use steps::RunAnswer;
 pub use steps::run::run;

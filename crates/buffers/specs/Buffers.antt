@@ -9,6 +9,7 @@ use Prim.Native.Nat.{ℕ, _*_}
 use lib.Dec.{leb}
 use lib.ListN.{length}
 use Rattle.dqbf.specs.Limits.{clauseLimit, literalLimit, variableLimit}
+use Rattle.sets.specs.Words.{wordsEach, tableWords, tableOf}
 use Rattle.tables.specs.declared.State.{State}
 use Rattle.tables.specs.Tables.{Tables, tablesOf}
 use Rattle.tables.specs.WellFormed.{every}
@@ -35,11 +36,11 @@ stateWhole b = leb stateSize (length (b .state))
 
 unfoldable pub whole : Buffers → Bool
 whole b =
-    every (leb (2 * literalLimit) (length (b .literals)) ∷ leb (2 * clauseLimit) (length (b .ends)) ∷ leb (8 * variableLimit) (length (b .sets))
+    every (leb (2 * literalLimit) (length (b .literals)) ∷ leb (2 * clauseLimit) (length (b .ends)) ∷ leb (8 * tableWords) (length (b .sets))
     ∷ leb variableLimit (length (b .kinds)) ∷ stateWhole b ∷ [])
 
 unfoldable pub tablesIn : Buffers → Tables
-tablesIn b = tablesOf (literalsIn literalLimit (b .literals)) (entries 2 clauseLimit (b .ends)) (entries 8 variableLimit (b .sets)) (b .kinds)
+tablesIn b = tablesOf (literalsIn literalLimit (b .literals)) (entries 2 clauseLimit (b .ends)) (entries 8 tableWords (b .sets)) (b .kinds)
 
 unfoldable pub stateIn : Buffers → State
 stateIn b = Codec.stateIn (b .state)
@@ -48,7 +49,7 @@ unfoldable pub written : Buffers → Tables → State → Buffers
 written b t s = record {
   literals = over (literalBytes (t .literals)) (b .literals);
   ends = over (bytesOf 2 (t .ends)) (b .ends);
-  sets = over (bytesOf 8 (t .sets)) (b .sets);
+  sets = over (bytesOf 8 (tableOf wordsEach (t .sets))) (b .sets);
   kinds = t .kinds;
   state = over (stateBytes s) (b .state);
 }

@@ -4,6 +4,7 @@ ghost use mathlib.Core.Bool.{cond};
 ghost use Prim.Native.Nat.{_*_, _-_, _≤_};
 ghost use lib.Dec.{leb};
 ghost use lib.ListN.{length, replicate};
+ghost use Rattle.sets.specs.Words.{wordsEach, tableWords, asSets, tableOf};
 ghost use Rattle.codec.specs.Bytes.{entries, bytesOf, literalsIn, literalBytes, over};
 ghost use Rattle.buffers.specs.Buffers.{buffersOf, stateSize, whole};
 ghost use Rattle.tables.specs.Tables.{entry};
@@ -13,7 +14,7 @@ const LITERAL_BYTES: usize = 16384;
 
 const END_BYTES: usize = 4096;
 
-const SET_BYTES: usize = 4096;
+const SET_BYTES: usize = 16384;
 
 const KIND_BYTES: usize = 512;
 
@@ -58,7 +59,7 @@ pub fn read_tables(
     table::read_sets(sets, set_bytes);
 }
 
-// Three tables back into their bytes.
+// Three tables back into their bytes. The words of the sets are those of the sets that they hold.
 pub fn write_tables(
     literal_bytes: &mut [u8],
     end_bytes: &mut [u8],
@@ -68,10 +69,10 @@ pub fn write_tables(
     sets: &[u64],
 )
     requires { ⌜ (2 * length (now literals) ≤ length (now «literal_bytes»)) × (2 * length (now ends) ≤ length (now «end_bytes»))
-        × (8 * length (now sets) ≤ length (now «set_bytes»)) ⌝ }
+        × (8 * length (now sets) ≤ length (now «set_bytes»)) × (length (now sets) ≡ tableWords) ⌝ }
     ensures { λ _. ⌜ (now («literal_bytes» .exit) ≡ over (literalBytes (now (literals .entry))) (now («literal_bytes» .entry)))
         × (now («end_bytes» .exit) ≡ over (bytesOf 2 (now (ends .entry))) (now («end_bytes» .entry)))
-        × (now («set_bytes» .exit) ≡ over (bytesOf 8 (now (sets .entry))) (now («set_bytes» .entry))) ⌝ }
+        × (now («set_bytes» .exit) ≡ over (bytesOf 8 (tableOf wordsEach (asSets wordsEach (now (sets .entry))))) (now («set_bytes» .entry))) ⌝ }
 {
     table::write_literals(literal_bytes, literals);
     table::write_ends(end_bytes, ends);

@@ -95,7 +95,6 @@ pub fn clause_line(
     let next = Progress {
         phase: progress::CLAUSE_LINES,
         count: progress.count,
-        places: progress.places,
         state: counted,
     };
     LineAnswer {

@@ -1,4 +1,4 @@
--- Sets of literals and clauses over the list of the variables' sets, as the table has them.
+-- Sets of literals and clauses over the list of the variables' sets, as the table's words hold them.
 -- The model's own (dqbf's specs/Model.antt) are these over `m .sets ++ m .forks` (proofs/Laws/Sets.antt).
 -- Offers `setIn`, `clauseSetIn`, `InUse`, `PartOf`.
 use mathlib.Core.Path.{_≡_}
@@ -8,6 +8,7 @@ use lib.IntN.{ℤ, natAbs}
 use lib.ListN.{length, getD}
 use Rattle.dqbf.specs.Literal.{Clause, _∈_}
 use Rattle.dqbf.specs.Set.{Set, emptySet, union}
+use Rattle.sets.specs.Words.{asSet}
 use Rattle.clause_sets.specs.declared.Part.{Part}
 
 -- the set of a variable
@@ -27,4 +28,4 @@ InUse sets C = (l : ℤ) → l ∈ C → (0 < natAbs l) × (natAbs l ≤ length 
 -- r has the number of literals of C and its set
 pub record PartOf (sets : List Set) (C : Clause) (r : Part) : Type 0 where
   pub count : r .count ≡ length C
-  pub set : r .set ≡ clauseSetIn sets C
+  pub set : asSet (r .set) ≡ clauseSetIn sets C

@@ -9,6 +9,6 @@ pub const CLAUSE_LIMIT: usize = 2048;
 
 pub const VARIABLE_LIMIT: usize = 512;
 
-pub const UNIVERSAL_LIMIT: u16 = 64;
+pub const UNIVERSAL_LIMIT: u16 = 256;
 
 pub const WIDTH_LIMIT: usize = 32;

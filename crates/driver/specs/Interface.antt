@@ -3,4 +3,4 @@
 use Prim.Native.Nat.{ℕ}
 
 abbrev pub interfaceNumber : ℕ
-interfaceNumber = 3
+interfaceNumber = 4

@@ -1,4 +1,4 @@
-// The header and the prefix lines. `kinds` and `sets` are those of the variables 1 to V, `names` the universals, ascending.
+// The header and the prefix lines. `kinds` has those of the variables 1 to V, `sets` the words of their sets, `names` the universals, ascending.
 ghost use mathlib.Core.Path.{_≡_};
 ghost use mathlib.Core.List.{map};
 ghost use Prim.Native.Nat.{_≤_};
@@ -8,11 +8,11 @@ ghost use Rattle.dqbf.specs.Line.{digitsOf};
 ghost use Rattle.dqbf.specs.Reading.{header, dLine};
 ghost use Rattle.dqbf.specs.Spelling.{lineText, text};
 ghost use Rattle.dqbf.specs.Spelled.{existentials, aLines, dLineOf};
+ghost use Rattle.sets.specs.Words.{wordsEach, asSet, asSets};
 ghost use Rattle.words.specs.Laid.{Fits, Wrote};
 ghost use Rattle.words.specs.Listed.{listed};
 ghost use Rattle.formula_lines.specs.Working.{declarations, universalNames, isIn, membersIn, declaredFrom};
 use super::universals;
-use dqbf::sets as set_words;
 use tables::VariableNumber;
 use tables::entries;
 use tables::kind as kinds_of;
@@ -30,14 +30,14 @@ pub fn write_header(out: &mut [u8], at: usize, variables: u32, clauses: u32) -> 
 
 // The universals in order of declaration, and the closing 0.
 fn write_universals(out: &mut [u8], at: usize, names: &[u32], sets: &[u64]) -> usize
-    requires { ⌜ Fits at (listed (map digitsOf (declaredFrom (now names) (now sets) 0 (length (now names))))) × (length (now names) ≤ universalLimit) ⌝ }
-    ensures { λ r. ⌜ Wrote (listed (map digitsOf (declaredFrom (now (names .entry)) (now (sets .entry)) 0 (length (now (names .entry)))))) at
+    requires { ⌜ Fits at (listed (map digitsOf (declaredFrom (now names) (asSets wordsEach (now sets)) 0 (length (now names))))) × (length (now names) ≤ universalLimit) ⌝ }
+    ensures { λ r. ⌜ Wrote (listed (map digitsOf (declaredFrom (now (names .entry)) (asSets wordsEach (now (sets .entry))) 0 (length (now (names .entry)))))) at
         (now (out .entry)) (now (out .exit)) r ⌝ }
 {
     let mut place = at;
     let mut i = 0;
     while i < names.len() {
-        let set = universals::single(i);
+        let set = sets::single(i as u16);
         let variable = universals::universal_with(names, sets, set);
         place = words::write_spaced(out, place, variable);
         i += 1;
@@ -47,8 +47,8 @@ fn write_universals(out: &mut [u8], at: usize, names: &[u32], sets: &[u64]) -> u
 
 // One `a` line, if there are universals.
 pub fn write_a_line(out: &mut [u8], at: usize, names: &[u32], sets: &[u64]) -> usize
-    requires { ⌜ Fits at (text (aLines (declaredFrom (now names) (now sets) 0 (length (now names))))) × (length (now names) ≤ universalLimit) ⌝ }
-    ensures { λ r. ⌜ Wrote (text (aLines (declaredFrom (now (names .entry)) (now (sets .entry)) 0 (length (now (names .entry)))))) at
+    requires { ⌜ Fits at (text (aLines (declaredFrom (now names) (asSets wordsEach (now sets)) 0 (length (now names))))) × (length (now names) ≤ universalLimit) ⌝ }
+    ensures { λ r. ⌜ Wrote (text (aLines (declaredFrom (now (names .entry)) (asSets wordsEach (now (sets .entry))) 0 (length (now (names .entry)))))) at
         (now (out .entry)) (now (out .exit)) r ⌝ }
 {
     if names.len() == 0 {
@@ -59,17 +59,17 @@ pub fn write_a_line(out: &mut [u8], at: usize, names: &[u32], sets: &[u64]) -> u
 }
 
 // Whether a universal is in a set.
-fn is_in(sets: &[u64], set: u64, variable: VariableNumber) -> bool
-    ensures { λ r. ⌜ r ≡ isIn (now (sets .entry)) set (variable .0) ⌝ }
+fn is_in(sets: &[u64], set: [u64; 4], variable: VariableNumber) -> bool
+    ensures { λ r. ⌜ r ≡ isIn (asSets wordsEach (now (sets .entry))) (asSet set) (variable .0) ⌝ }
 {
     let own = entries::set_of(sets, variable);
-    set_words::inside(own, set)
+    sets::inside(own, set)
 }
 
 // The universals in a set, ascending, and the closing 0.
-fn write_members(out: &mut [u8], at: usize, names: &[u32], sets: &[u64], set: u64) -> usize
-    requires { ⌜ Fits at (listed (map digitsOf (membersIn (now names) (now sets) set))) ⌝ }
-    ensures { λ r. ⌜ Wrote (listed (map digitsOf (membersIn (now (names .entry)) (now (sets .entry)) set))) at (now (out .entry)) (now (out .exit)) r ⌝ }
+fn write_members(out: &mut [u8], at: usize, names: &[u32], sets: &[u64], set: [u64; 4]) -> usize
+    requires { ⌜ Fits at (listed (map digitsOf (membersIn (now names) (asSets wordsEach (now sets)) (asSet set)))) ⌝ }
+    ensures { λ r. ⌜ Wrote (listed (map digitsOf (membersIn (now (names .entry)) (asSets wordsEach (now (sets .entry))) (asSet set)))) at (now (out .entry)) (now (out .exit)) r ⌝ }
 {
     let mut place = at;
     let mut i = 0;
@@ -90,10 +90,10 @@ fn write_d_line(
     names: &[u32],
     sets: &[u64],
     variable: u32,
-    set: u64,
+    set: [u64; 4],
 ) -> usize
-    requires { ⌜ Fits at (lineText (dLine variable (membersIn (now names) (now sets) set))) ⌝ }
-    ensures { λ r. ⌜ Wrote (lineText (dLine variable (membersIn (now (names .entry)) (now (sets .entry)) set))) at (now (out .entry)) (now (out .exit)) r ⌝ }
+    requires { ⌜ Fits at (lineText (dLine variable (membersIn (now names) (asSets wordsEach (now sets)) (asSet set)))) ⌝ }
+    ensures { λ r. ⌜ Wrote (lineText (dLine variable (membersIn (now (names .entry)) (asSets wordsEach (now (sets .entry))) (asSet set)))) at (now (out .entry)) (now (out .exit)) r ⌝ }
 {
     let named = words::write_word(out, at, b"d ");
     let behind = words::write_spaced(out, named, variable);
@@ -102,16 +102,16 @@ fn write_d_line(
 
 // A `d` line for each existential, ascending.
 pub fn write_d_lines(out: &mut [u8], at: usize, names: &[u32], kinds: &[u8], sets: &[u64]) -> usize
-    requires { ⌜ Fits at (text (map (dLineOf (declarations (now kinds) (now sets))) (existentials (declarations (now kinds) (now sets)))))
-        × (now names ≡ universalNames (now kinds)) × (length (now sets) ≡ length (now kinds)) × (length (now kinds) ≤ variableLimit) ⌝ }
-    ensures { λ r. ⌜ Wrote (text (map (dLineOf (declarations (now (kinds .entry)) (now (sets .entry)))) (existentials (declarations (now (kinds .entry)) (now (sets .entry)))))) at
+    requires { ⌜ Fits at (text (map (dLineOf (declarations (now kinds) (asSets wordsEach (now sets)))) (existentials (declarations (now kinds) (asSets wordsEach (now sets))))))
+        × (now names ≡ universalNames (now kinds)) × (length (asSets wordsEach (now sets)) ≡ length (now kinds)) × (length (now kinds) ≤ variableLimit) ⌝ }
+    ensures { λ r. ⌜ Wrote (text (map (dLineOf (declarations (now (kinds .entry)) (asSets wordsEach (now (sets .entry))))) (existentials (declarations (now (kinds .entry)) (asSets wordsEach (now (sets .entry))))))) at
         (now (out .entry)) (now (out .exit)) r ⌝ }
 {
     let mut place = at;
     let mut i = 0;
     while i < kinds.len() {
         let kind = kinds[i];
-        let set = sets[i];
+        let set = sets::get(sets, i);
         i += 1;
         if kind == kinds_of::EXISTENTIAL {
             place = write_d_line(out, place, names, sets, i as u32, set);

@@ -1,10 +1,10 @@
-// The universals, listed once. `kinds` and `sets` are those of the variables 1 to V, `names` are universals.
+// The universals, listed once. `kinds` has those of the variables 1 to V, `sets` the words of their sets, `names` are universals.
 ghost use mathlib.Core.Path.{_≡_};
-ghost use Prim.Native.Nat.{_≤_, _<_};
+ghost use Prim.Native.Nat.{_≤_};
 ghost use lib.ListN.{length, take};
-ghost use Rattle.dqbf.specs.Limits.{variableLimit, universalLimit};
+ghost use Rattle.dqbf.specs.Limits.{variableLimit};
 ghost use Rattle.dqbf.specs.Model.{universalsIn};
-ghost use Rattle.dqbf.specs.Set as Set;
+ghost use Rattle.sets.specs.Words.{wordsEach, asSet, asSets};
 ghost use Rattle.formula_lines.specs.Working.{universalNames, universalWith};
 use tables::VariableNumber;
 use tables::entries;
@@ -28,22 +28,15 @@ pub fn list_universals(names: &mut [u32], kinds: &[u8]) -> usize
     count
 }
 
-// The set that has one place.
-pub fn single(place: usize) -> u64
-    requires { ⌜ place < universalLimit ⌝ }
-    ensures { λ r. ⌜ r ≡ Set.single place ⌝ }
-{
-    1u64 << (place as u32)
-}
-
 // The one of the universals that has a set; 0: none has.
-pub fn universal_with(names: &[u32], sets: &[u64], set: u64) -> u32
-    ensures { λ r. ⌜ r ≡ universalWith (now (names .entry)) (now (sets .entry)) set ⌝ }
+pub fn universal_with(names: &[u32], sets: &[u64], set: [u64; 4]) -> u32
+    ensures { λ r. ⌜ r ≡ universalWith (now (names .entry)) (asSets wordsEach (now (sets .entry))) (asSet set) ⌝ }
 {
     let mut i = 0;
     while i < names.len() {
         let variable = VariableNumber(names[i]);
-        if entries::set_of(sets, variable) == set {
+        let own = entries::set_of(sets, variable);
+        if sets::same(own, set) {
             return variable.0;
         }
         i += 1;

@@ -44,4 +44,4 @@ writeOf t s out =
 
 -- No formula within the limits has a longer text.
 abbrev pub tidyLimit : ℕ
-tidyLimit = 163840
+tidyLimit = 311296

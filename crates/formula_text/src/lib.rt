@@ -7,6 +7,7 @@ ghost use lib.Dec.{ltb};
 ghost use lib.ListN.{length};
 ghost use Rattle.dqbf.specs.Spelling.{text};
 ghost use Rattle.dqbf.specs.Spelled.{formulaIn, linesOf, spelled};
+ghost use Rattle.sets.specs.Words.{wordsEach, asSets};
 ghost use Rattle.words.specs.Laid.{Fits, Wrote};
 ghost use Rattle.formula_lines.specs.Working.{universalNames};
 ghost use Rattle.formula_text.specs.Entries.{Entries};
@@ -22,7 +23,7 @@ use tables::formed;
 pub const OUTPUT_TOO_SHORT: u16 = 30;
 
 // An output of so many bytes is never too short.
-pub const TIDY_LIMIT: usize = 163840;
+pub const TIDY_LIMIT: usize = 311296;
 
 // How long the text is, or the number of a refusal: 1, 2 or 30.
 pub enum WriteAnswer {
@@ -30,7 +31,7 @@ pub enum WriteAnswer {
     Refused(u16),
 }
 
-// The lines of a formula, from its entries: `names` are the universals, `kinds` and `sets` those of the variables 1 to V, `ends` those of the formula clauses.
+// The lines of a formula, from its entries: `names` are the universals, `kinds` has those of the variables 1 to V, `sets` the words of their sets, `ends` those of the formula clauses.
 fn write_lines(
     out: &mut [u8],
     names: &[u32],
@@ -39,9 +40,9 @@ fn write_lines(
     sets: &[u64],
     kinds: &[u8],
 ) -> usize
-    requires { ⌜ Fits 0 (text (linesOf (formulaIn (now kinds) (now sets) (cut 0 (now ends) (now literals))))) × Entries (now literals) (now ends) (now sets) (now kinds)
+    requires { ⌜ Fits 0 (text (linesOf (formulaIn (now kinds) (asSets wordsEach (now sets)) (cut 0 (now ends) (now literals))))) × Entries (now literals) (now ends) (asSets wordsEach (now sets)) (now kinds)
         × (now names ≡ universalNames (now kinds)) ⌝ }
-    ensures { λ r. ⌜ Wrote (text (linesOf (formulaIn (now (kinds .entry)) (now (sets .entry)) (cut 0 (now (ends .entry)) (now (literals .entry)))))) 0
+    ensures { λ r. ⌜ Wrote (text (linesOf (formulaIn (now (kinds .entry)) (asSets wordsEach (now (sets .entry))) (cut 0 (now (ends .entry)) (now (literals .entry)))))) 0
         (now (out .entry)) (now (out .exit)) r ⌝ }
 {
     let headed = prefix::write_header(out, 0, kinds.len() as u32, ends.len() as u32);
@@ -58,8 +59,8 @@ fn write_entries(
     sets: &[u64],
     kinds: &[u8],
 ) -> usize
-    requires { ⌜ Fits 0 (text (linesOf (formulaIn (now kinds) (now sets) (cut 0 (now ends) (now literals))))) × Entries (now literals) (now ends) (now sets) (now kinds) ⌝ }
-    ensures { λ r. ⌜ Wrote (text (linesOf (formulaIn (now (kinds .entry)) (now (sets .entry)) (cut 0 (now (ends .entry)) (now (literals .entry)))))) 0
+    requires { ⌜ Fits 0 (text (linesOf (formulaIn (now kinds) (asSets wordsEach (now sets)) (cut 0 (now ends) (now literals))))) × Entries (now literals) (now ends) (asSets wordsEach (now sets)) (now kinds) ⌝ }
+    ensures { λ r. ⌜ Wrote (text (linesOf (formulaIn (now (kinds .entry)) (asSets wordsEach (now (sets .entry))) (cut 0 (now (ends .entry)) (now (literals .entry)))))) 0
         (now (out .entry)) (now (out .exit)) r ⌝ }
 {
     let mut names = [0u32; UNIVERSAL_LIMIT as usize];
@@ -85,11 +86,12 @@ fn write_text(
     let formula = state.formula;
     let variable_count = bound.0 as usize;
     let clause_count = formula.0 as usize;
+    let word_count = 4 * variable_count;
     write_entries(
         out,
         literals,
         &ends[..clause_count],
-        &sets[..variable_count],
+        &sets[..word_count],
         &kinds[..variable_count],
     )
 }

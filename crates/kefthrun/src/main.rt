@@ -3,6 +3,7 @@ use api::CLAUSE_LIMIT;
 use api::LINE_SIZE;
 use api::LITERAL_LIMIT;
 use api::RECORDS_LIMIT;
+use api::TABLE_WORDS;
 use api::TEXT_LIMIT;
 use api::VARIABLE_LIMIT;
 use api::Written;
@@ -12,7 +13,7 @@ use libc::STDOUT_FILENO;
 fn print_line(text: &[u8], records: &[u8]) {
     let mut literals = [0i16; LITERAL_LIMIT];
     let mut ends = [0u16; CLAUSE_LIMIT];
-    let mut sets = [0u64; VARIABLE_LIMIT];
+    let mut sets = [0u64; TABLE_WORDS];
     let mut kinds = [0u8; VARIABLE_LIMIT];
     let mut out = [0u8; LINE_SIZE];
     let written = api::judge(

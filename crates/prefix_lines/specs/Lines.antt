@@ -13,9 +13,8 @@ use Prim.Native.Nat.{ℕ, zero, suc, _+_, _≤_}
 use lib.ListN.{length, take}
 use Rattle.dqbf.specs.Limits.{variableLimit, universalLimit, clauseLimit, literalLimit}
 use Rattle.dqbf.specs.Refusal.{Refusal, refusal, first}
-use Rattle.dqbf.specs.Set.{Set, union}
 use Rattle.dqbf.specs.Formula.{Declaration, onA, onE, universals, declared}
-use Rattle.dqbf.specs.Model.{wordOf, modelOf}
+use Rattle.dqbf.specs.Model.{modelOf}
 use Rattle.dqbf.specs.Reading.{Form, Phase, opening, prefixLines, clauseLines, Reader, start, fresh, lineTests, declaring, taken}
 use Rattle.dqbf.proofs.Reading.Lines.{Sane}
 use Rattle.ranks.specs.Order.{allInserted}
@@ -35,7 +34,6 @@ unfoldable pub progressOf : Reader → Progress
 progressOf r = record {
   phase = phaseNumber (r .phase);
   count = r .count;
-  places = wordOf (universals (r .formula)) (universals (r .formula));
   state = stateOf (modelOf (r .formula));
 }
 
@@ -81,7 +79,7 @@ pub record Within (p : Progress) : Type 0 where
 
 -- one formula clause more, of so many literals
 unfoldable pub clauseAdded : Progress → ℕ → Progress
-clauseAdded p width = record { phase = 2; count = p .count; places = p .places; state = formulaCounted (clauseEnded (p .state) width) }
+clauseAdded p width = record { phase = 2; count = p .count; state = formulaCounted (clauseEnded (p .state) width) }
 
 -- ---- variables of an `a` line (true) or an `e` line, one after the other
 
@@ -89,12 +87,11 @@ unfoldable pub onLine : Bool → ℕ → Declaration
 onLine true x = onA x
 onLine false x = onE x
 
--- one universal more, with its set
-unfoldable pub universalAdded : Progress → Set → Progress
-universalAdded p s = record {
+-- one universal more
+unfoldable pub universalAdded : Progress → Progress
+universalAdded p = record {
   phase = p .phase;
   count = p .count;
-  places = union (p .places) s;
   state = record {
     bound = p .state .bound;
     variables = p .state .variables;
@@ -117,3 +114,4 @@ pub record DeclaredAll (universal : Bool) (xs : List ℕ) (t : Tables) (r : Read
 pub record OneMore (p : Progress) (a : LineAnswer) : Type 0 where
   pub bound : a .progress .state .bound .0 ≡ p .state .bound .0
   pub universals : a .progress .state .universals ≤ p .state .universals + 1
+  pub few : a .progress .state .universals ≤ universalLimit

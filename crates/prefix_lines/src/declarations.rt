@@ -7,6 +7,7 @@ ghost use lib.IntN.{ℤ};
 ghost use lib.ListN.{length, getD, drop};
 ghost use Rattle.dqbf.specs.Limits.{universalLimit};
 ghost use Rattle.dqbf.specs.Reading.{Reader, prefixLines, aLine, eLine, dLine, taken};
+ghost use Rattle.sets.specs.Words.{wordsEach, asSet, asSets, spareIn};
 ghost use Rattle.tables.specs.Tables.{Tables, tablesOf};
 ghost use Rattle.tables.specs.WellFormed.{allOf};
 ghost use Rattle.prefix_lines.specs.Rows.{Declared, isUniversal, unionOf};
@@ -25,12 +26,13 @@ fn declare(
     variable: u32,
     bound: u32,
     kind: u8,
-    set: u64,
+    set: [u64; 4],
     sets: &mut [u64],
     kinds: &mut [u8],
 ) -> bool
-    requires { ⌜ (0 < variable) × (bound ≤ length (now sets)) × (bound ≤ length (now kinds)) ⌝ }
-    ensures { λ r. ⌜ Declared bound variable kind set (now (sets .entry)) (now (kinds .entry)) r (now (sets .exit)) (now (kinds .exit)) ⌝ }
+    requires { ⌜ (0 < variable) × (bound ≤ length (asSets wordsEach (now sets))) × (bound ≤ length (now kinds)) ⌝ }
+    ensures { λ r. ⌜ Declared bound variable kind (asSet set) (asSets wordsEach (now (sets .entry))) (now (kinds .entry)) r (asSets wordsEach (now (sets .exit))) (now (kinds .exit))
+        × (spareIn wordsEach (now (sets .exit)) ≡ spareIn wordsEach (now (sets .entry))) ⌝ }
 {
     if variable > bound {
         return false;
@@ -39,7 +41,7 @@ fn declare(
     if kinds[place] != 0 {
         return false;
     }
-    sets[place] = set;
+    sets::put(sets, place, set);
     kinds[place] = kind;
     true
 }
@@ -52,8 +54,8 @@ fn declare_one(
     sets: &mut [u64],
     kinds: &mut [u8],
 ) -> LineAnswer
-    requires { ⌜ (0 < variable) × (progress .state .bound .0 ≤ length (now sets)) × (progress .state .bound .0 ≤ length (now kinds))
-        × (universal ≡ true → progress .state .universals < universalLimit) ⌝ }
+    requires { ⌜ (0 < variable) × (progress .state .bound .0 ≤ length (asSets wordsEach (now sets))) × (progress .state .bound .0 ≤ length (now kinds))
+        × (universal ≡ true → progress .state .universals < universalLimit) × (progress .state .universals ≤ universalLimit) ⌝ }
     ensures { λ r. ⌜ OneMore progress r × ((t : Tables) (reader : Reader) (literals : List ℤ) (ends : List ℕ)
         → ReadSoFar t reader progress (tablesOf literals ends (now (sets .entry)) (now (kinds .entry))) → reader .phase ≡ prefixLines
         → DeclaredAll universal (variable ∷ []) t reader r (tablesOf literals ends (now (sets .exit)) (now (kinds .exit)))) ⌝ }
@@ -61,17 +63,18 @@ fn declare_one(
     let state = progress.state;
     let bound = state.bound;
     if universal {
-        let set = 1u64 << (state.universals as u32);
+        let set = sets::single(state.universals);
         if !declare(variable, bound.0, 1, set, sets, kinds) {
             return progress::refused(progress, refusal::VARIABLE);
         }
-        let next = progress::add_universal(progress, set);
+        let next = progress::add_universal(progress);
         return LineAnswer {
             progress: next,
             refusal: refusal::NONE,
         };
     }
-    if !declare(variable, bound.0, 2, progress.places, sets, kinds) {
+    let earlier = sets::lowest(state.universals);
+    if !declare(variable, bound.0, 2, earlier, sets, kinds) {
         return progress::refused(progress, refusal::VARIABLE);
     }
     LineAnswer {
@@ -88,8 +91,9 @@ fn declare_all(
     sets: &mut [u64],
     kinds: &mut [u8],
 ) -> LineAnswer
-    requires { ⌜ ((i : ℕ) → i < length (now variables) → 0 < getD (now variables) i 0) × (start .state .bound .0 ≤ length (now sets))
-        × (start .state .bound .0 ≤ length (now kinds)) × (universal ≡ true → start .state .universals + length (now variables) ≤ universalLimit) ⌝ }
+    requires { ⌜ ((i : ℕ) → i < length (now variables) → 0 < getD (now variables) i 0) × (start .state .bound .0 ≤ length (asSets wordsEach (now sets)))
+        × (start .state .bound .0 ≤ length (now kinds)) × (universal ≡ true → start .state .universals + length (now variables) ≤ universalLimit)
+        × (start .state .universals ≤ universalLimit) ⌝ }
     ensures { λ r. ⌜ ((t : Tables) (reader : Reader) (literals : List ℤ) (ends : List ℕ)
         → ReadSoFar t reader start (tablesOf literals ends (now (sets .entry)) (now (kinds .entry))) → reader .phase ≡ prefixLines
         → DeclaredAll universal (now (variables .entry)) t reader r (tablesOf literals ends (now (sets .exit)) (now (kinds .exit)))) ⌝ }
@@ -115,22 +119,23 @@ fn declare_all(
 // What the members of a set are: whether each is a universal, and the union of their sets.
 pub struct Members {
     pub universal: bool,
-    pub union: u64,
+    pub union: [u64; 4],
 }
 
 // The members of a `d` line's set.
 fn members_of(variables: &[u32], sets: &[u64], kinds: &[u8]) -> Members
-    ensures { λ r. ⌜ (r .universal ≡ allOf (isUniversal (now (kinds .entry))) (now (variables .entry))) × (r .union ≡ unionOf (now (sets .entry)) (now (variables .entry))) ⌝ }
+    ensures { λ r. ⌜ (r .universal ≡ allOf (isUniversal (now (kinds .entry))) (now (variables .entry))) × (asSet (r .union) ≡ unionOf (asSets wordsEach (now (sets .entry))) (now (variables .entry))) ⌝ }
 {
     let mut universal = true;
-    let mut union = 0;
+    let mut union = [0u64; 4];
     let mut i = variables.len();
     while i > 0 {
         i -= 1;
         let kind = entries::kind_of(kinds, VariableNumber(variables[i]));
         universal = (kind == 1) & universal;
         let set = entries::set_of(sets, VariableNumber(variables[i]));
-        union = dqbf::sets::union(set, union);
+        let united = sets::union(set, union);
+        union = united;
     }
     Members { universal, union }
 }
@@ -142,8 +147,8 @@ pub fn existential_line(
     sets: &mut [u64],
     kinds: &mut [u8],
 ) -> LineAnswer
-    requires { ⌜ ((i : ℕ) → i < length (now variables) → 0 < getD (now variables) i 0) × (progress .state .bound .0 ≤ length (now sets))
-        × (progress .state .bound .0 ≤ length (now kinds)) ⌝ }
+    requires { ⌜ ((i : ℕ) → i < length (now variables) → 0 < getD (now variables) i 0) × (progress .state .bound .0 ≤ length (asSets wordsEach (now sets)))
+        × (progress .state .bound .0 ≤ length (now kinds)) × (progress .state .universals ≤ universalLimit) ⌝ }
     ensures { λ r. ⌜ ((t : Tables) (reader : Reader) (literals : List ℤ) (ends : List ℕ)
         → ReadSoFar t reader progress (tablesOf literals ends (now (sets .entry)) (now (kinds .entry)))
         → LineRead t reader (eLine (now (variables .entry))) r (tablesOf literals ends (now (sets .exit)) (now (kinds .exit)))) ⌝ }
@@ -161,7 +166,7 @@ pub fn dependent_line(
     sets: &mut [u64],
     kinds: &mut [u8],
 ) -> LineAnswer
-    requires { ⌜ (0 < length (now numbers)) × (0 < getD (now numbers) 0 0) × (progress .state .bound .0 ≤ length (now sets))
+    requires { ⌜ (0 < length (now numbers)) × (0 < getD (now numbers) 0 0) × (progress .state .bound .0 ≤ length (asSets wordsEach (now sets)))
         × (progress .state .bound .0 ≤ length (now kinds)) ⌝ }
     ensures { λ r. ⌜ ((t : Tables) (reader : Reader) (literals : List ℤ) (ends : List ℕ)
         → ReadSoFar t reader progress (tablesOf literals ends (now (sets .entry)) (now (kinds .entry)))
@@ -173,11 +178,13 @@ pub fn dependent_line(
     let state = progress.state;
     let bound = state.bound;
     let end = bound.0 as usize;
-    let members = members_of(&numbers[1..], &sets[..end], &kinds[..end]);
+    let word_end = 4 * end;
+    let members = members_of(&numbers[1..], &sets[..word_end], &kinds[..end]);
     if !members.universal {
         return progress::refused(progress, refusal::VARIABLE);
     }
-    if !declare(numbers[0], bound.0, 2, members.union, sets, kinds) {
+    let set = members.union;
+    if !declare(numbers[0], bound.0, 2, set, sets, kinds) {
         return progress::refused(progress, refusal::VARIABLE);
     }
     LineAnswer {
@@ -194,7 +201,7 @@ pub fn universal_line(
     sets: &mut [u64],
     kinds: &mut [u8],
 ) -> LineAnswer
-    requires { ⌜ ((i : ℕ) → i < length (now variables) → 0 < getD (now variables) i 0) × (progress .state .bound .0 ≤ length (now sets))
+    requires { ⌜ ((i : ℕ) → i < length (now variables) → 0 < getD (now variables) i 0) × (progress .state .bound .0 ≤ length (asSets wordsEach (now sets)))
         × (progress .state .bound .0 ≤ length (now kinds)) × (progress .state .universals ≤ universalLimit) × (universalLimit < length (now known)) ⌝ }
     ensures { λ r. ⌜ ((t : Tables) (reader : Reader) (literals : List ℤ) (ends : List ℕ)
         → ReadSoFar t reader progress (tablesOf literals ends (now (sets .entry)) (now (kinds .entry))) → Known reader (now (known .entry))

@@ -10,8 +10,6 @@ pub struct Progress {
     pub phase: u8,
     // the header's C
     pub count: u32,
-    // the places of the universals so far, as a set
-    pub places: u64,
     pub state: State,
 }
 
@@ -37,10 +35,10 @@ pub fn refused(progress: Progress, number: u32) -> LineAnswer
     }
 }
 
-// One universal more, with its set.
-pub fn add_universal(progress: Progress, set: u64) -> Progress
+// One universal more.
+pub fn add_universal(progress: Progress) -> Progress
     requires { ⌜ progress .state .universals < universalLimit ⌝ }
-    ensures { λ r. ⌜ r ≡ universalAdded progress set ⌝ }
+    ensures { λ r. ⌜ r ≡ universalAdded progress ⌝ }
 {
     let state = progress.state;
     let bound = state.bound;
@@ -62,7 +60,6 @@ pub fn add_universal(progress: Progress, set: u64) -> Progress
     Progress {
         phase: progress.phase,
         count: progress.count,
-        places: progress.places | set,
         state: next,
     }
 }

@@ -2,7 +2,6 @@
 ghost use mathlib.Core.Path.{_≡_};
 ghost use Rattle.tables.specs.Tables.{tablesOf};
 ghost use Rattle.questions.specs.Answers.{Shown, lengthTold, lengthAnswer, variableTold, variableAnswer};
-use dqbf::sets as words;
 use tables::ClauseNumber;
 use tables::State;
 use tables::VariableNumber;
@@ -100,6 +99,6 @@ pub fn variable(
     }
     let kind = entries::kind_of(kinds, number);
     let set = entries::set_of(sets, number);
-    let universals = words::size(set) as u16;
+    let universals = sets::size(set) as u16;
     VariableAnswer::Known { kind, universals }
 }

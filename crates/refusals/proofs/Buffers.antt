@@ -3,7 +3,8 @@ use mathlib.Core.Path.{_≡_, refl, sym, ap, ap₂, _∙_}
 use mathlib.Core.Bool.{Bool, true, false}
 use mathlib.Core.List.{List, [], _∷_, _++_, map, append-nil}
 use mathlib.Core.Option.{some}
-use Prim.Native.Nat.{ℕ, zero, suc, _+_, _*_, _≤_}
+use Prim.Native.Nat.{ℕ, zero, suc, _+_, _*_, _/_, _≤_}
+use lib.Dec.{lit<}
 use lib.IntN.{pos}
 use lib.ListN.{length, take, drop, replicate, length-replicate, replicate-append-replicate, drop-of-length-le}
 use native.Mathlib.Nat.{mul-zero, mul-suc}
@@ -11,6 +12,9 @@ use native.Mathlib.Omega.{arith}
 use Rattle.dqbf.specs.Limits.{clauseLimit, literalLimit, variableLimit, recordSize}
 use Rattle.dqbf.specs.Refusal.{Refusal}
 use Rattle.dqbf.specs.Run.{Verdict, refuted, open′, bad}
+use Rattle.sets.specs.Words.{wordsEach, tableWords, asSets, tableOf}
+use Rattle.sets.proofs.Laws.Sets.{sets-length}
+use Rattle.sets.proofs.Laws.Tables.{table-zeros}
 use Rattle.tables.specs.Spread.{spread, stateOf, zeroState}
 use Rattle.tables.specs.declared.State.{State}
 use Rattle.dqdimacs.specs.Loading.{AfterLoad, loadOf}
@@ -175,6 +179,9 @@ module _ (b : Buffers) (text : List ℕ) (w : whole b ≡ true) where
       → loadOf (tablesIn b) text .answer ≡ Load.Refused line number
   load-answer line number e = told-refused (loadOf (tablesIn b) text .answer) line number (sym (load-tells b text w) ∙ e)
 
+  held-sets : length (asSets wordsEach (entries 8 tableWords (b .sets))) ≡ variableLimit
+  held-sets = sets-length 4 (lit< tt) (entries 8 tableWords (b .sets)) ∙ ap (λ n. n / 4) (entries-length 8 tableWords (b .sets))
+
   zeroed-written : (x : AfterLoad) → Zeroed (tablesIn b) x → written b (x .tables) (x .state) ≡ zeroedBytes b
   unfolding written tablesIn zeroedBytes
   zeroed-written x z = λ i. record {
@@ -183,7 +190,7 @@ module _ (b : Buffers) (text : List ℕ) (w : whole b ≡ true) where
     ends = ap (λ (l : List ℕ). over l (b .ends))
         (ap (bytesOf 2) (z .ends ∙ none-past clauseLimit 0 (entries 2 clauseLimit (b .ends)) (entries-length 2 clauseLimit (b .ends))) ∙ zero-bytes 2 clauseLimit) i;
     sets = ap (λ (l : List ℕ). over l (b .sets))
-        (ap (bytesOf 8) (z .sets ∙ none-past variableLimit 0 (entries 8 variableLimit (b .sets)) (entries-length 8 variableLimit (b .sets))) ∙ zero-bytes 8 variableLimit) i;
+        (ap (λ (S : List ℕ). bytesOf 8 (tableOf wordsEach S)) (z .sets ∙ none-past variableLimit 0 (asSets wordsEach (entries 8 tableWords (b .sets))) held-sets) ∙ ap (bytesOf 8) (table-zeros 4 variableLimit) ∙ zero-bytes 8 tableWords) i;
     kinds = (z .kinds ∙ zeros-over variableLimit (b .kinds)) i;
     state = (ap (λ (s : State). over (stateBytes s) (b .state)) (z .state) ∙ zero-state (b .state)) i;
   }

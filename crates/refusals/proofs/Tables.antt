@@ -1,16 +1,18 @@
 -- The claims of specs/Statements.antt about lent tables.
-use mathlib.Core.Path.{_≡_, refl, sym, ap, _∙_}
+use mathlib.Core.Path.{_≡_, refl, sym, ap, ap₂, subst, _∙_}
+use mathlib.Core.Logic.{_⊎_, inl, inr}
 use mathlib.Core.Bool.{Bool, true, false, cond, not}
-use mathlib.Core.List.{List, [], _∷_}
+use mathlib.Core.List.{List, [], _∷_, _++_, append-assoc}
 use mathlib.Core.Option.{some}
 use Prim.Native.Nat.{ℕ, zero, suc, _+_, _*_, _≤_}
 use lib.Dec.{ltb}
-use lib.ListN.{length, take, drop, getD, length-take, length-drop}
+use lib.ListN.{length, take, drop, getD, replicate, length-take, length-drop}
 use lib.Seq.{take-nil, drop-nil, take-take, drop-drop}
 use native.Mathlib.Omega.{arith}
 use borrow.Author.Tests.{ltb-false, le-ltb, lt-ltb}
-use Rattle.dqbf.specs.Limits.{Room, tables, recordsLimit, recordSize}
+use Rattle.dqbf.specs.Limits.{Room, tables, variableLimit, recordsLimit, recordSize}
 use Rattle.dqbf.specs.Refusal.{Refusal, refusal}
+use Rattle.dqbf.specs.Set.{Set}
 use Rattle.dqbf.specs.Record.{stretches}
 use Rattle.dqbf.specs.Model.{Model, clauses}
 use Rattle.dqbf.specs.Run.{Examined, accepts, refuses, after, refusalOf, examineBytes, examineBytesBy, bad, verdictOf, runFrom, runFromBy, run, runBy}
@@ -21,12 +23,16 @@ use Rattle.dqbf.proofs.LoadValid.{load-valid}
 use Rattle.dqbf.proofs.Laws.Stopping.{stopped-at}
 use Rattle.dqbf.proofs.StepsKeepValid.{call-keeps}
 use Rattle.records.proofs.Laws.Records.{record-front}
-use Rattle.tables.specs.Tables.{Tables, modelIn}
+use Rattle.sets.specs.Words.{wordsEach, tableWords, asSets, spareIn, tableOf}
+use Rattle.sets.proofs.Laws.Tables.{table-append, table-zeros}
+use Rattle.tables.specs.Tables.{Tables, tablesOf, modelIn}
 use Rattle.tables.specs.Spread.{flat, endsFrom, kindRow, setRow, over, spread, stateOf}
 use Rattle.tables.specs.WellFormed.{long, wellFormed}
 use Rattle.tables.specs.declared.State.{State}
 use Rattle.tables.specs.Statements.{Framed}
-use Rattle.tables.proofs.Refinement.{rest-stays}
+use Rattle.tables.proofs.Refinement.{rest-stays, words-follow, rest-words, rest-in-words}
+use Rattle.tables.proofs.Laws.Formed.{long-is}
+use Rattle.tables.proofs.Laws.Lent.{long-words}
 use Rattle.tables.proofs.Laws.Spread.{model-held, state-held, valid-held, model-back, formed-spread, long-spread, blank-valid, blank-state}
 use Rattle.dqdimacs.specs.Loading.{loadedModel, loadedOn, loadShort, loadOf}
 use Rattle.dqdimacs.proofs.LoadFormed.{refused-zeroed}
@@ -35,7 +41,7 @@ use Rattle.steps.specs.Runs.{recordsIn, verdictIn}
 use Rattle.steps.proofs.Laws.Runs.{stretches-enough}
 use Rattle.lines.specs.Lines.{outputSize, written, withLine}
 use Rattle.verdict.proofs.Laws.Judging.{judged-refused, judged-ran}
-use Rattle.refusals.specs.Statements.{ShortSame, FormlessSame, StepSame, RunSame, RunStopped, LoadZeroed, RestSame, JudgeLeaves, JudgeShort}
+use Rattle.refusals.specs.Statements.{ShortSame, FormlessSame, StepSame, RunSame, RunStopped, LoadZeroed, RestSame, WordsZeroed, WordsRest, JudgeLeaves, JudgeShort}
 
 -- ---- 1 and 2
 
@@ -230,6 +236,7 @@ load-zeroed t text line number h e =
       literals = ap (λ (x : Tables). x .literals) of;
       ends = ap (λ (x : Tables). x .ends) of;
       sets = ap (λ (x : Tables). x .sets) of;
+      spare = ap (λ (x : Tables). x .spare) of;
       kinds = ap (λ (x : Tables). x .kinds) of;
       state = z .state;
     }
@@ -238,7 +245,7 @@ load-zeroed t text line number h e =
 
 module _ (t : Tables) where
   framed-same : Framed t t
-  framed-same = record { literals = refl; ends = refl; sets = refl; kinds = refl }
+  framed-same = record { literals = refl; ends = refl; sets = refl; spare = refl; kinds = refl }
 
   load-framed : (b : Bool) (o : Loaded) → Valid tables (loadedModel o) → Framed t (cond (not b) (loadShort t) (loadedOn t o) .tables)
   unfolding loadShort loadedOn
@@ -271,6 +278,26 @@ pub rest-same : RestSame
 unfolding loadOf stepOf runOf
 rest-same t s bytes =
     (load-framed t (long t) (load bytes) (loaded-valid t bytes (load bytes) refl), step-framed t s bytes (long t) (wellFormed t s) refl refl, run-framed t s bytes (long t) (wellFormed t s) refl refl)
+
+-- ---- the sets table in its words
+
+pub words-zeroed : WordsZeroed
+words-zeroed l l′ e e′ w w′ k k′ text line number f f′ lent told is =
+    let z = load-zeroed (tablesOf l e w k) text line number lent told in
+    let S = asSets wordsEach w in
+    let zeros : List Set = replicate variableLimit 0 in
+    sym (words-follow l′ e′ w′ k′ f′) ∙ ap (λ (t : Tables). tableOf wordsEach (t .sets) ++ t .spare) is
+    ∙ ap₂ (λ (T : List Set) (v : List ℕ). tableOf wordsEach T ++ v) (z .sets) (z .spare)
+    ∙ rw (table-append 4 zeros (drop variableLimit S), table-zeros 4 variableLimit, append-assoc (replicate tableWords 0) (tableOf wordsEach (drop variableLimit S)) (spareIn wordsEach w), ← rest-words w f (long-words w (long-is (tablesOf l e w k) lent .sets)))
+
+-- tables that a load, a step or a run leaves
+left-framed : (t t′ : Tables) (s : State) (bytes : List ℕ) → (t′ ≡ loadOf t bytes .tables) ⊎ ((t′ ≡ stepOf t s bytes .tables) ⊎ (t′ ≡ runOf t s bytes .tables)) → Framed t t′
+left-framed t t′ s bytes (inl e) = subst (λ (x : Tables). Framed t x) (sym e) (rest-same t s bytes .0)
+left-framed t t′ s bytes (inr (inl e)) = subst (λ (x : Tables). Framed t x) (sym e) (rest-same t s bytes .1)
+left-framed t t′ s bytes (inr (inr e)) = subst (λ (x : Tables). Framed t x) (sym e) (rest-same t s bytes .2)
+
+pub words-rest : WordsRest
+words-rest l l′ e e′ w w′ k k′ f f′ h h′ s bytes is = rest-in-words l l′ e e′ w w′ k k′ f f′ h h′ (left-framed (tablesOf l e w k) (tablesOf l′ e′ w′ k′) s bytes is)
 
 -- ---- `judge`
 

@@ -11,6 +11,7 @@
 --     StepNames, RunNames      what the refusal of a step and of a run names (document 02, Note 4)
 --     LoadZeroed         a refused formula leaves zeros over the stated sizes, the entries past them, and a zero state
 --     RestSame           entries past the stated sizes stay, whatever a load, a step or a run answers
+--     WordsZeroed, WordsRest   the same two of the sets table in its words: zeros over 2,048 words, and every word past them stays
 --     JudgeLeaves        `judge` leaves the tables of the load or, behind an accepted one, those of the run, so that all of the above holds of it
 --     JudgeShort         with fewer bytes lent than a line may need, `judge` leaves these
 -- `loadBytes` and `runBytes` are the outcomes that the contracts of the exports `kefthrun_load` and `kefthrun_run` promise of the driver's buffers; `whole` is
@@ -27,18 +28,20 @@
 --     WriteRest, WriteBytesRest      behind a written text the output is as it was, and as long
 --     WriteBytesShort                number 1: too few bytes in any buffer
 use mathlib.Core.Path.{_≡_}
+use mathlib.Core.Logic.{_⊎_}
 use mathlib.Core.Bool.{true, false, cond}
 use mathlib.Core.List.{List, [], _∷_, _++_}
 use mathlib.Core.Option.{some}
 use Prim.Native.Nat.{ℕ, suc, _+_, _*_, _≤_, _<_}
-use lib.IntN.{pos}
+use lib.IntN.{ℤ, pos}
 use lib.ListN.{length, replicate, take, drop}
 use Rattle.dqbf.specs.Limits.{clauseLimit, literalLimit, variableLimit, recordSize}
 use Rattle.dqbf.specs.Refusal.{Refusal, refusal}
 use Rattle.dqbf.specs.Run.{bad}
 use Rattle.dqbf.specs.Statements.ClashingVariable.{Named}
-use Rattle.tables.specs.Tables.{Tables, modelIn}
-use Rattle.tables.specs.Statements.{Framed}
+use Rattle.sets.specs.Words.{tableWords}
+use Rattle.tables.specs.Tables.{Tables, tablesOf, modelIn}
+use Rattle.tables.specs.Statements.{Framed, Below}
 use Rattle.tables.specs.Spread.{zeroState}
 use Rattle.tables.specs.WellFormed.{long, wellFormed}
 use Rattle.tables.specs.declared.State.{State}
@@ -114,6 +117,7 @@ pub record Zeroed (t : Tables) (x : AfterLoad) : Type 0 where
   pub literals : x .tables .literals ≡ replicate literalLimit (pos 0) ++ drop literalLimit (t .literals)
   pub ends : x .tables .ends ≡ replicate clauseLimit 0 ++ drop clauseLimit (t .ends)
   pub sets : x .tables .sets ≡ replicate variableLimit 0 ++ drop variableLimit (t .sets)
+  pub spare : x .tables .spare ≡ t .spare
   pub kinds : x .tables .kinds ≡ replicate variableLimit 0 ++ drop variableLimit (t .kinds)
   pub state : x .state ≡ zeroState
 
@@ -125,6 +129,23 @@ LoadZeroed = (t : Tables) (text : List ℕ) (line number : ℕ) → long t ≡ t
 abbrev pub RestSame : Type 0
 RestSame =
     (t : Tables) (s : State) (bytes : List ℕ) → Framed t (loadOf t bytes .tables) × Framed t (stepOf t s bytes .tables) × Framed t (runOf t s bytes .tables)
+
+-- ---- the same of the words of a sets table (document 02, Note 6): `words` before a call, `words′` behind it
+
+abbrev pub WordsZeroed : Type 0
+WordsZeroed =
+    (literals literals′ : List ℤ) (ends ends′ words words′ kinds kinds′ text : List ℕ) (line number : ℕ) → Below words → Below words′
+    → let t = tablesOf literals ends words kinds in
+    long t ≡ true → loadOf t text .answer ≡ Load.Refused line number → tablesOf literals′ ends′ words′ kinds′ ≡ loadOf t text .tables
+    → words′ ≡ replicate tableWords 0 ++ drop tableWords words
+
+abbrev pub WordsRest : Type 0
+WordsRest =
+    (literals literals′ : List ℤ) (ends ends′ words words′ kinds kinds′ : List ℕ) → Below words → Below words′ → tableWords ≤ length words → tableWords ≤ length words′
+    → (s : State) (bytes : List ℕ)
+    → let t = tablesOf literals ends words kinds in
+    let t′ = tablesOf literals′ ends′ words′ kinds′ in
+    (t′ ≡ loadOf t bytes .tables) ⊎ ((t′ ≡ stepOf t s bytes .tables) ⊎ (t′ ≡ runOf t s bytes .tables)) → drop tableWords words′ ≡ drop tableWords words
 
 -- ---- `judge`: a load, and a run where the text is accepted
 
@@ -170,10 +191,10 @@ RunBytesStopped =
     (runBytes b (take (recordSize * k) records) ≡ record { buffers = left; result = runResult (verdictIn (stateIn left)) })
     × (stepOf (tablesIn left) (stateIn left) (drop (recordSize * k) records) .answer ≡ some (refusalIn number variable))
 
--- the bytes of 8,192, 2,048, 512 and 512 entries and of eight counts are 0
+-- the bytes of 8,192, 2,048, 2,048 and 512 entries and of eight counts are 0
 unfoldable pub zeroedBytes : Buffers → Buffers
 zeroedBytes b =
-    buffersOf (over (replicate (2 * literalLimit) 0) (b .literals)) (over (replicate (2 * clauseLimit) 0) (b .ends)) (over (replicate (8 * variableLimit) 0) (b .sets))
+    buffersOf (over (replicate (2 * literalLimit) 0) (b .literals)) (over (replicate (2 * clauseLimit) 0) (b .ends)) (over (replicate (8 * tableWords) 0) (b .sets))
     (over (replicate variableLimit 0) (b .kinds)) (over (replicate stateSize 0) (b .state))
 
 abbrev pub LoadBytesZeroed : Type 0

@@ -31,7 +31,7 @@ WroteText t s out n = writeOf t s out .answer ≡ textLength n
 abbrev pub textOf : Tables → State → List ℕ → ℕ → List ℕ
 textOf t s out n = take n (writeOf t s out .output)
 
--- An output of 163,840 bytes is never too short: number 30 is not answered, whatever the tables and the state are.
+-- An output of 311,296 bytes is never too short: number 30 is not answered, whatever the tables and the state are.
 abbrev pub LongEnough : Type 0
 LongEnough = (t : Tables) (s : State) (out : List ℕ) → tidyLimit ≤ length out → writeOf t s out .answer ≢ noText (refusal 30)
 

@@ -8,7 +8,6 @@ use additions::refusal;
 use clauses::held;
 use clauses::tests;
 use dqbf::literal;
-use dqbf::sets as words;
 use tables::ClauseNumber;
 use tables::State;
 use tables::VariableNumber;
@@ -94,10 +93,10 @@ pub fn reduce(
     }
     let set = entries::set_of(sets, variable);
     let variables = state.variables;
-    let used = variables.0 as usize;
+    let used = 4 * variables.0 as usize;
     // a universal's set is one place: another literal's set has it if the union of them has
     let read = clause_sets::set_without(x, place, &sets[..used]);
-    if words::inside(set, read) {
+    if sets::inside(set, read) {
         return adding::refused(state, refusal::READ_BY_ANOTHER);
     }
     let held = held::hold(x);
@@ -131,24 +130,27 @@ pub fn fork(
         return adding::refused(state, refusal::MASKS);
     }
     let variables = state.variables;
-    let used = variables.0 as usize;
+    let used = 4 * variables.0 as usize;
     let first = clause_sets::measure_part(x, left, &sets[..used]);
     let second = clause_sets::measure_part(x, right, &sets[..used]);
-    if words::inside(first.set, second.set) {
+    let first_set = first.set;
+    let second_set = second.set;
+    if sets::inside(first_set, second_set) {
         return adding::refused(state, refusal::COMPARABLE);
     }
-    if words::inside(second.set, first.set) {
+    if sets::inside(second_set, first_set) {
         return adding::refused(state, refusal::COMPARABLE);
     }
     let held = held::hold(x);
     let n = held.count;
     let source = held.literals;
+    let set = sets::common(first_set, second_set);
     let split = Split {
         left,
         right,
         first: first.count,
         second: second.count,
-        set: words::common(first.set, second.set),
+        set,
     };
     adding::add_parts(&source[..n], split, literals, ends, sets, kinds, state)
 }

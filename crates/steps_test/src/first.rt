@@ -26,11 +26,11 @@ fn state_of(count: u32) -> State {
 
 // A record of a kind with no clause, over four zero tables of these lengths.
 fn take(first: usize, second: usize, third: usize, fourth: usize, state: State, kind: u8)
-    requires { ⌜ (first ≤ 8192) × (second ≤ 2048) × (third ≤ 512) × (fourth ≤ 512) ⌝ }
+    requires { ⌜ (first ≤ 8192) × (second ≤ 2048) × (third ≤ 2048) × (fourth ≤ 512) ⌝ }
 {
     let mut literals = [0i16; 8192];
     let mut ends = [0u16; 2048];
-    let mut sets = [0u64; 512];
+    let mut sets = [0u64; 2048];
     let mut kinds = [0u8; 512];
     let record = [kind, 0, 0, 0, 0, 0, 0, 0, 0, 0, 0, 0, 0, 0, 0, 0];
     let stepped = api::step(
@@ -48,12 +48,12 @@ fn take(first: usize, second: usize, third: usize, fourth: usize, state: State, 
 // What is tested behind the test that is broken is wrong too, so that the order is seen.
 pub fn tests() {
     io::write_all(STDOUT_FILENO, b"first tests\nsteps");
-    take(8191, 2048, 512, 512, state_of(1), 0);
-    take(8192, 2047, 512, 512, state_of(1), 0);
-    take(8192, 2048, 511, 512, state_of(1), 0);
-    take(8192, 2048, 512, 511, state_of(1), 0);
-    take(8192, 2048, 512, 512, state_of(1), 0);
-    take(8192, 2048, 512, 512, state_of(0), 0);
-    take(8192, 2048, 512, 512, state_of(0), 1);
+    take(8191, 2048, 2048, 512, state_of(1), 0);
+    take(8192, 2047, 2048, 512, state_of(1), 0);
+    take(8192, 2048, 2047, 512, state_of(1), 0);
+    take(8192, 2048, 2048, 511, state_of(1), 0);
+    take(8192, 2048, 2048, 512, state_of(1), 0);
+    take(8192, 2048, 2048, 512, state_of(0), 0);
+    take(8192, 2048, 2048, 512, state_of(0), 1);
     io::write_all(STDOUT_FILENO, b"\n");
 }

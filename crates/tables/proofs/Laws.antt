@@ -8,6 +8,7 @@ pub mod Valid
 pub mod Spread
 pub mod Adding
 pub mod Entries
+pub mod Lent
 pub mod Zeros
 pub mod Turns
 pub mod Unusable

@@ -40,6 +40,7 @@ spread m t = record {
   literals = over literalLimit (pos 0) (flat (clauses m)) (t .literals);
   ends = over clauseLimit 0 (endsFrom 0 (clauses m)) (t .ends);
   sets = over variableLimit 0 (setRow m) (t .sets);
+  spare = t .spare;
   kinds = over variableLimit 0 (kindRow m) (t .kinds);
 }
 

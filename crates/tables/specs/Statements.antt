@@ -2,14 +2,19 @@
 use mathlib.Core.Path.{_≡_}
 use mathlib.Core.Bool.{true}
 use mathlib.Core.Logic.{_↔_}
-use lib.ListN.{drop}
+use mathlib.Core.List.{List, [], _∷_, _++_}
+use Prim.Native.Nat.{ℕ, _^_, _≤_, _<_}
+use lib.Dec.{leb}
+use lib.IntN.{ℤ}
+use lib.ListN.{length, getD, drop}
 use Rattle.dqbf.specs.Limits.{clauseLimit, literalLimit, variableLimit, tables}
 use Rattle.dqbf.specs.Model.{Model}
 use Rattle.dqbf.specs.Valid.{Valid}
 use Rattle.tables.specs.declared.State.{State}
-use Rattle.tables.specs.Tables.{Tables, modelIn}
+use Rattle.sets.specs.Words.{wordsEach, tableWords, tableOf}
+use Rattle.tables.specs.Tables.{Tables, tablesOf, modelIn}
 use Rattle.tables.specs.Spread.{spread, stateOf, blank, zeroState}
-use Rattle.tables.specs.WellFormed.{long, wellFormed, valid}
+use Rattle.tables.specs.WellFormed.{every, long, wellFormed, valid}
 
 -- The test of a model is the calculus' own notion of validity.
 abbrev pub ValidExactly : Type 0
@@ -33,10 +38,40 @@ pub record Framed (t t′ : Tables) : Type 0 where
   pub literals : drop literalLimit (t′ .literals) ≡ drop literalLimit (t .literals)
   pub ends : drop clauseLimit (t′ .ends) ≡ drop clauseLimit (t .ends)
   pub sets : drop variableLimit (t′ .sets) ≡ drop variableLimit (t .sets)
+  pub spare : t′ .spare ≡ t .spare
   pub kinds : drop variableLimit (t′ .kinds) ≡ drop variableLimit (t .kinds)
 
 abbrev pub RestStays : Type 0
 RestStays = (m : Model) → Valid tables m → (t : Tables) → Framed t (spread m t)
+
+-- ---- the sets table in words (document 02, Note 6)
+
+-- words of 64 bits
+abbrev pub Below : List ℕ → Type 0
+Below words = (i : ℕ) → getD words i 0 < 2 ^ 64
+
+-- The words of a lent sets table follow from its sets and the words behind the last whole one; so an equation of tables fixes every word.
+abbrev pub WordsFollow : Type 0
+WordsFollow =
+    (literals : List ℤ) (ends words kinds : List ℕ) → Below words
+    → tableOf wordsEach (tablesOf literals ends words kinds .sets) ++ tablesOf literals ends words kinds .spare ≡ words
+
+abbrev pub WordsFixed : Type 0
+WordsFixed =
+    (literals literals′ : List ℤ) (ends ends′ words words′ kinds kinds′ : List ℕ) → Below words → Below words′
+    → tablesOf literals′ ends′ words′ kinds′ ≡ tablesOf literals ends words kinds → words′ ≡ words
+
+-- Every word past 2,048 stays.
+abbrev pub RestInWords : Type 0
+RestInWords =
+    (literals literals′ : List ℤ) (ends ends′ words words′ kinds kinds′ : List ℕ) → Below words → Below words′ → tableWords ≤ length words → tableWords ≤ length words′
+    → Framed (tablesOf literals ends words kinds) (tablesOf literals′ ends′ words′ kinds′) → drop tableWords words′ ≡ drop tableWords words
+
+-- "the sets table grows to 2,048 words, four for each variable"
+abbrev pub LongInWords : Type 0
+LongInWords =
+    (literals : List ℤ) (ends words kinds : List ℕ) → long (tablesOf literals ends words kinds)
+    ≡ every (leb literalLimit (length literals) ∷ leb clauseLimit (length ends) ∷ leb tableWords (length words) ∷ leb variableLimit (length kinds) ∷ [])
 
 -- Zero tables with a zero state hold a valid model, with no variable and no clause.
 abbrev pub BlankValid : Type 0

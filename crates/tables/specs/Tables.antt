@@ -1,5 +1,6 @@
 -- The four lent tables, and the model that they hold with a state (document 01, "The four lent tables").
---     Tables, tablesOf               the four tables
+--     Tables, rowsOf                 the four tables, the sets as sets
+--     tablesOf                       the tables as they are lent: four words for each set (document 02, Note 6)
 --     stretch, cut, entry            a part of a table; the clauses between their ends; an entry by its number
 --     kindsIn, setsIn, clausesIn     the entries in use
 --     modelIn                        the model
@@ -10,16 +11,22 @@ use lib.ListN.{take, drop, getD}
 use Rattle.dqbf.specs.Literal.{Clause}
 use Rattle.dqbf.specs.Set.{Set}
 use Rattle.dqbf.specs.Model.{Model}
+use Rattle.sets.specs.Words.{wordsEach, asSets, spareIn}
 use Rattle.tables.specs.declared.State.{State}
 
 pub record Tables : Type 0 where
   pub literals : List ℤ  -- the clauses, one behind the other
   pub ends : List ℕ  -- end of clause 1, 2, .. in the literals
   pub sets : List Set  -- dependency set of variable 1, 2, ..
+  pub spare : List ℕ  -- words of a longer table behind the last whole set
   pub kinds : List ℕ  -- 0 undeclared, 1 universal, 2 existential, 3 fork
 
-abbrev pub tablesOf : List ℤ → List ℕ → List Set → List ℕ → Tables
-tablesOf literals ends sets kinds = record { literals = literals; ends = ends; sets = sets; kinds = kinds }
+abbrev pub rowsOf : List ℤ → List ℕ → List Set → List ℕ → List ℕ → Tables
+rowsOf literals ends sets spare kinds = record { literals = literals; ends = ends; sets = sets; spare = spare; kinds = kinds }
+
+-- the words of the sets table, `wordsEach` for each variable, the lowest bits first
+abbrev pub tablesOf : List ℤ → List ℕ → List ℕ → List ℕ → Tables
+tablesOf literals ends words kinds = rowsOf literals ends (asSets wordsEach words) (spareIn wordsEach words) kinds
 
 -- the entries from one place up to another
 abbrev pub stretch : {A : Type 0} → ℕ → ℕ → List A → List A

@@ -4,6 +4,7 @@ ghost use Prim.Native.Nat.{_+_, _≤_, _<_};
 ghost use lib.ListN.{length};
 ghost use lib.ListN as List;
 ghost use Rattle.dqbf.specs.Limits.{clauseLimit, variableLimit};
+ghost use Rattle.sets.specs.Words.{wordsEach, asSet, asSets, spareIn};
 ghost use Rattle.tables.specs.Adding.{lowestAfter, clauseEnded, variableAdded, stepCounted, formulaCounted, full, RoomFor};
 use super::ClauseNumber;
 use super::State;
@@ -56,9 +57,11 @@ pub fn end_clause(ends: &mut [u16], state: State, width: u16) -> State
 }
 
 // One more variable in use, a fork variable with its set.
-pub fn add_variable(sets: &mut [u64], kinds: &mut [u8], state: State, set: u64) -> State
-    requires { ⌜ RoomFor state 0 0 1 × (variableLimit ≤ length (now sets)) × (variableLimit ≤ length (now kinds)) ⌝ }
-    ensures { λ r. ⌜ (r ≡ variableAdded state) × (now (sets .exit) ≡ List.set (now (sets .entry)) (state .variables .0) set)
+pub fn add_variable(sets: &mut [u64], kinds: &mut [u8], state: State, set: [u64; 4]) -> State
+    requires { ⌜ RoomFor state 0 0 1 × (variableLimit ≤ length (asSets wordsEach (now sets))) × (variableLimit ≤ length (now kinds)) ⌝ }
+    ensures { λ r. ⌜ (r ≡ variableAdded state)
+        × (asSets wordsEach (now (sets .exit)) ≡ List.set (asSets wordsEach (now (sets .entry))) (state .variables .0) (asSet set))
+        × (spareIn wordsEach (now (sets .exit)) ≡ spareIn wordsEach (now (sets .entry)))
         × (now (kinds .exit) ≡ List.set (now (kinds .entry)) (state .variables .0) 3) ⌝ }
 {
     let bound = state.bound;
@@ -68,7 +71,7 @@ pub fn add_variable(sets: &mut [u64], kinds: &mut [u8], state: State, set: u64) 
     let steps = state.steps;
     let empty = state.empty;
     let place = variables.0 as usize;
-    sets[place] = set;
+    sets::put(sets, place, set);
     kinds[place] = kind::FORK;
     State {
         bound,
@@ -161,13 +164,14 @@ pub fn add_fork(
     state: State,
     left: u16,
     right: u16,
-    set: u64,
+    set: [u64; 4],
 ) -> State
-    requires { ⌜ RoomFor state 2 (left + right) 1 × (clauseLimit ≤ length (now ends)) × (variableLimit ≤ length (now sets))
+    requires { ⌜ RoomFor state 2 (left + right) 1 × (clauseLimit ≤ length (now ends)) × (variableLimit ≤ length (asSets wordsEach (now sets)))
         × (variableLimit ≤ length (now kinds)) × (state .steps .0 < clauseLimit) ⌝ }
     ensures { λ r. ⌜ (r ≡ stepCounted (variableAdded (clauseEnded (clauseEnded state left) right)))
         × (now (ends .exit) ≡ List.set (List.set (now (ends .entry)) (state .clauses .0) (state .literals + left)) (state .clauses .0 + 1) (state .literals + left + right))
-        × (now (sets .exit) ≡ List.set (now (sets .entry)) (state .variables .0) set)
+        × (asSets wordsEach (now (sets .exit)) ≡ List.set (asSets wordsEach (now (sets .entry))) (state .variables .0) (asSet set))
+        × (spareIn wordsEach (now (sets .exit)) ≡ spareIn wordsEach (now (sets .entry)))
         × (now (kinds .exit) ≡ List.set (now (kinds .entry)) (state .variables .0) 3) ⌝ }
 {
     let first = end_clause(ends, state, left);

@@ -2,6 +2,7 @@
 ghost use mathlib.Core.Path.{_≡_};
 ghost use Prim.Native.Nat.{_-_, _≤_, _<_};
 ghost use lib.ListN.{length};
+ghost use Rattle.sets.specs.Words.{wordsEach, asSet, asSets};
 ghost use Rattle.tables.specs.Tables.{entry};
 use super::ClauseNumber;
 use super::VariableNumber;
@@ -49,13 +50,16 @@ pub fn kind_of(kinds: &[u8], variable: VariableNumber) -> u8
 }
 
 // The dependency set of a variable; the empty set for a number with no entry.
-pub fn set_of(sets: &[u64], variable: VariableNumber) -> u64
-    ensures { λ r. ⌜ r ≡ entry (now (sets .entry)) (variable .0) ⌝ }
+pub fn set_of(sets: &[u64], variable: VariableNumber) -> [u64; 4]
+    ensures { λ r. ⌜ asSet r ≡ entry (asSets wordsEach (now (sets .entry))) (variable .0) ⌝ }
 {
     let number = variable.0 as usize;
     if number == 0 {
-        return 0;
+        return [0, 0, 0, 0];
     }
     let place = number - 1;
-    if place < sets.len() { sets[place] } else { 0 }
+    if place < sets.len() / 4 {
+        return sets::get(sets, place);
+    }
+    [0, 0, 0, 0]
 }

@@ -7,8 +7,9 @@ ghost use lib.Dec.{eqb, ltb};
 ghost use lib.ListN.{length};
 ghost use Rattle.dqbf.specs.Limits.{clauseLimit, universalLimit};
 ghost use Rattle.dqbf.specs.Model.{emptyFrom};
+ghost use Rattle.sets.specs.Words.{wordsEach, asSet, asSets};
 ghost use Rattle.tables.specs.Tables.{tablesOf, cut};
-ghost use Rattle.tables.specs.WellFormed.{every, long, countsFit, endsRise, clauseFits, clausesFit, lowest, newBit, kindStands, variableFits, variablesFit, restZero, wellFormed};
+ghost use Rattle.tables.specs.WellFormed.{every, long, countsFit, endsRise, clauseFits, clausesFit, newBit, kindStands, variableFits, variablesFit, restZero, wellFormed};
 ghost use Rattle.tables.specs.Unusable.{unusableNumber};
 use super::State;
 use super::VariableNumber;
@@ -34,7 +35,7 @@ pub fn long_enough(literals: &[i16], ends: &[u16], sets: &[u64], kinds: &[u8]) -
     if ends.len() < CLAUSE_LIMIT {
         return false;
     }
-    if sets.len() < VARIABLE_LIMIT {
+    if sets.len() < sets::TABLE_WORDS {
         return false;
     }
     if kinds.len() < VARIABLE_LIMIT {
@@ -76,25 +77,14 @@ fn counts_fit(state: State) -> bool
     clauses.0 as u64 == formula.0 as u64 + steps.0 as u64 + (variables.0 - bound.0) as u64
 }
 
-// The lowest `count` places.
-fn lowest_places(count: u16) -> u64
-    requires { ⌜ count ≤ universalLimit ⌝ }
-    ensures { λ r. ⌜ r ≡ lowest count ⌝ }
-{
-    if count >= UNIVERSAL_LIMIT {
-        return 0xFFFF_FFFF_FFFF_FFFF;
-    }
-    (1u64 << (count as u32)) - 1
-}
-
 // A universal's set is a single bit, other than those seen before.
-fn is_new_bit(seen: u64, set: u64) -> bool
-    ensures { λ r. ⌜ r ≡ newBit seen set ⌝ }
+fn is_new_bit(seen: [u64; 4], set: [u64; 4]) -> bool
+    ensures { λ r. ⌜ r ≡ newBit (asSet seen) (asSet set) ⌝ }
 {
-    if u64::count_ones(set) != 1 {
+    if sets::size(set) != 1 {
         return false;
     }
-    seen & set == 0
+    sets::is_empty(sets::common(seen, set))
 }
 
 // Kind 3 stands above V and nowhere else.
@@ -108,8 +98,8 @@ fn kind_stands(kind: u8, declared: bool) -> bool
 }
 
 // What is asked of one variable's kind and set, but for the universals' bits.
-fn variable_fits(kind: u8, set: u64, declared: bool, places: u64) -> bool
-    ensures { λ r. ⌜ r ≡ variableFits declared places kind set ⌝ }
+fn variable_fits(kind: u8, set: [u64; 4], declared: bool, places: [u64; 4]) -> bool
+    ensures { λ r. ⌜ r ≡ variableFits declared (asSet places) kind (asSet set) ⌝ }
 {
     if kind > kind::FORK {
         return false;
@@ -118,26 +108,26 @@ fn variable_fits(kind: u8, set: u64, declared: bool, places: u64) -> bool
         return false;
     }
     if kind == kind::UNDECLARED {
-        return set == 0;
+        return sets::is_empty(set);
     }
     if kind < kind::EXISTENTIAL {
         return true;
     }
-    set & places == set
+    sets::inside(set, places)
 }
 
 // The kinds and sets in use.
 fn variables_fit(kinds: &[u8], sets: &[u64], bound: usize, universals: u16) -> bool
-    requires { ⌜ (universals ≤ universalLimit) × (length (now sets) ≡ length (now kinds)) ⌝ }
-    ensures { λ r. ⌜ r ≡ variablesFit bound universals (now (kinds .entry)) (now (sets .entry)) ⌝ }
+    requires { ⌜ (universals ≤ universalLimit) × (length (asSets wordsEach (now sets)) ≡ length (now kinds)) ⌝ }
+    ensures { λ r. ⌜ r ≡ variablesFit bound universals (now (kinds .entry)) (asSets wordsEach (now (sets .entry))) ⌝ }
 {
-    let places = lowest_places(universals);
-    let mut seen: u64 = 0;
+    let places = sets::lowest(universals);
+    let mut seen = [0u64; 4];
     let mut count: usize = 0;
     let mut i = 0;
     while i < kinds.len() {
         let kind = kinds[i];
-        let set = sets[i];
+        let set = sets::get(sets, i);
         if !variable_fits(kind, set, i < bound, places) {
             return false;
         }
@@ -146,14 +136,15 @@ fn variables_fit(kinds: &[u8], sets: &[u64], bound: usize, universals: u16) -> b
             if !is_new_bit(seen, set) {
                 return false;
             }
-            seen = seen | set;
+            let united = sets::union(seen, set);
+            seen = united;
             count += 1;
         }
     }
     if count != universals as usize {
         return false;
     }
-    seen == places
+    sets::same(seen, places)
 }
 
 // One clause, over variables of the kinds 1 to `highest`.
@@ -248,7 +239,8 @@ fn rest_zero(literals: &[i16], ends: &[u16], sets: &[u64], kinds: &[u8], state: 
     if !zero::zero_ends(&ends[clause_count..CLAUSE_LIMIT]) {
         return false;
     }
-    if !zero::zero_sets(&sets[variable_count..VARIABLE_LIMIT]) {
+    let word_count = 4 * variable_count;
+    if !zero::zero_sets(&sets[word_count..sets::TABLE_WORDS]) {
         return false;
     }
     zero::zero_kinds(&kinds[variable_count..VARIABLE_LIMIT])
@@ -269,6 +261,7 @@ pub fn well_formed(literals: &[i16], ends: &[u16], sets: &[u64], kinds: &[u8], s
     let empty = state.empty;
     let clause_count = clauses.0 as usize;
     let variable_count = variables.0 as usize;
+    let word_count = 4 * variable_count;
     if !clauses_fit(
         literals,
         &ends[..clause_count],
@@ -281,7 +274,7 @@ pub fn well_formed(literals: &[i16], ends: &[u16], sets: &[u64], kinds: &[u8], s
     }
     if !variables_fit(
         &kinds[..variable_count],
-        &sets[..variable_count],
+        &sets[..word_count],
         bound.0 as usize,
         state.universals,
     ) {

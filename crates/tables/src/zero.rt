@@ -117,6 +117,6 @@ pub fn clear(literals: &mut [i16], ends: &mut [u16], sets: &mut [u64], kinds: &m
 {
     clear_literals(literals, LITERAL_LIMIT);
     clear_ends(ends, CLAUSE_LIMIT);
-    clear_sets(sets, VARIABLE_LIMIT);
+    clear_sets(sets, sets::TABLE_WORDS);
     clear_kinds(kinds, VARIABLE_LIMIT);
 }

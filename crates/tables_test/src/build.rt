@@ -45,7 +45,7 @@ pub fn sample_state() -> State {
 pub fn sample(
     literals: &mut [i16; 8200],
     ends: &mut [u16; 2056],
-    sets: &mut [u64; 520],
+    sets: &mut [u64; 2083],
     kinds: &mut [u8; 520],
 ) {
     literals[0] = 1;
@@ -65,10 +65,10 @@ pub fn sample(
     ends[5] = 8;
     ends[2055] = 7;
     sets[0] = 1;
-    sets[1] = 2;
-    sets[2] = 1;
-    sets[3] = 2;
-    sets[519] = 7;
+    sets[4] = 2;
+    sets[8] = 1;
+    sets[12] = 2;
+    sets[2082] = 7;
     kinds[0] = 1;
     kinds[1] = 1;
     kinds[2] = 2;
@@ -81,7 +81,7 @@ pub fn judged(
     label: &[u8],
     literals: &[i16; 8200],
     ends: &[u16; 2056],
-    sets: &[u64; 520],
+    sets: &[u64; 2083],
     kinds: &[u8; 520],
     state: State,
 ) {
@@ -89,7 +89,7 @@ pub fn judged(
     line(label, number as u64);
 }
 
-// One entry of each table, two of the literals and of the sets.
+// One entry of each table, two of the literals and of the words of the sets.
 pub struct Change {
     pub literal_place: usize,
     pub literal: i16,
@@ -112,9 +112,9 @@ fn unchanged() -> Change {
         next_literal: 7,
         end_place: 2055,
         end: 7,
-        set_place: 519,
+        set_place: 2082,
         set: 7,
-        other_place: 519,
+        other_place: 2082,
         other: 7,
         kind_place: 519,
         kind: 7,
@@ -134,8 +134,8 @@ fn change_end(ends: &mut [u16; 2056], place: usize, end: u16) {
     }
 }
 
-fn change_set(sets: &mut [u64; 520], place: usize, set: u64) {
-    if place < 520 {
+fn change_set(sets: &mut [u64; 2083], place: usize, set: u64) {
+    if place < 2083 {
         sets[place] = set;
     }
 }
@@ -150,7 +150,7 @@ fn change_kind(kinds: &mut [u8; 520], place: usize, kind: u8) {
 fn changed(label: &[u8], change: Change, state: State) {
     let mut literals = [0i16; 8200];
     let mut ends = [0u16; 2056];
-    let mut sets = [0u64; 520];
+    let mut sets = [0u64; 2083];
     let mut kinds = [0u8; 520];
     sample(&mut literals, &mut ends, &mut sets, &mut kinds);
     change_literals(
@@ -206,7 +206,7 @@ pub fn with_kind(label: &[u8], place: usize, kind: u8) {
 pub fn with_zeros(label: &[u8], state: State) {
     let literals = [0i16; 8200];
     let ends = [0u16; 2056];
-    let sets = [0u64; 520];
+    let sets = [0u64; 2083];
     let kinds = [0u8; 520];
     judged(label, &literals, &ends, &sets, &kinds, state);
 }

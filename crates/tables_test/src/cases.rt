@@ -5,7 +5,7 @@ use super::fill;
 fn exact_lengths() {
     let literals = [0i16; 8192];
     let ends = [0u16; 2048];
-    let sets = [0u64; 512];
+    let sets = [0u64; 2048];
     let kinds = [0u8; 512];
     build::blank(b"lengths as stated", &literals, &ends, &sets, &kinds);
 }
@@ -13,7 +13,7 @@ fn exact_lengths() {
 fn short_literals() {
     let literals = [0i16; 8191];
     let ends = [0u16; 2048];
-    let sets = [0u64; 512];
+    let sets = [0u64; 2048];
     let kinds = [0u8; 512];
     build::blank(b"8191 literals", &literals, &ends, &sets, &kinds);
 }
@@ -21,7 +21,7 @@ fn short_literals() {
 fn short_ends() {
     let literals = [0i16; 8192];
     let ends = [0u16; 2047];
-    let sets = [0u64; 512];
+    let sets = [0u64; 2048];
     let kinds = [0u8; 512];
     build::blank(b"2047 ends", &literals, &ends, &sets, &kinds);
 }
@@ -29,15 +29,15 @@ fn short_ends() {
 fn short_sets() {
     let literals = [0i16; 8192];
     let ends = [0u16; 2048];
-    let sets = [0u64; 511];
+    let sets = [0u64; 2047];
     let kinds = [0u8; 512];
-    build::blank(b"511 sets", &literals, &ends, &sets, &kinds);
+    build::blank(b"2047 words of sets", &literals, &ends, &sets, &kinds);
 }
 
 fn short_kinds() {
     let literals = [0i16; 8192];
     let ends = [0u16; 2048];
-    let sets = [0u64; 512];
+    let sets = [0u64; 2048];
     let kinds = [0u8; 511];
     build::blank(b"511 kinds", &literals, &ends, &sets, &kinds);
 }
@@ -125,18 +125,30 @@ pub fn clauses() {
     );
 }
 
-// Kinds and sets.
+// Kinds and sets; a set is given by the place of its word.
 pub fn variables() {
-    build::with_sets(b"universals' bits the other way round", 0, 2, 1, 1);
-    build::with_sets(b"universals with one bit", 0, 1, 1, 1);
-    build::with_sets(b"a universal with two bits", 0, 3, 1, 2);
-    build::with_sets(b"a universal with no bit", 0, 0, 1, 2);
-    build::with_sets(b"universals' bits 0 and 2", 0, 1, 1, 4);
-    build::with_sets(b"an existential set {1, 2}", 2, 3, 3, 2);
-    build::with_sets(b"an existential set with bit 2", 2, 4, 3, 2);
-    build::with_sets(b"a fork set with bit 1", 5, 2, 3, 2);
-    build::with_sets(b"a fork set with bit 63", 5, 9223372036854775808, 3, 2);
-    build::with_sets(b"an undeclared variable with a set", 4, 1, 3, 2);
+    build::with_sets(b"universals' bits the other way round", 0, 2, 4, 1);
+    build::with_sets(b"universals with one bit", 0, 1, 4, 1);
+    build::with_sets(b"a universal with two bits", 0, 3, 4, 2);
+    build::with_sets(b"a universal with no bit", 0, 0, 4, 2);
+    build::with_sets(b"universals' bits 0 and 2", 0, 1, 4, 4);
+    build::with_sets(b"universals' bits 0 and 64", 4, 0, 5, 1);
+    build::with_sets(b"a universal with bits 0 and 64", 1, 1, 12, 2);
+    build::with_sets(b"a universal with bits 0 and 192", 3, 1, 12, 2);
+    build::with_sets(b"an existential set {1, 2}", 8, 3, 12, 2);
+    build::with_sets(b"an existential set with bit 2", 8, 4, 12, 2);
+    build::with_sets(b"a fork set with bit 1", 20, 2, 12, 2);
+    build::with_sets(b"a fork set with bit 63", 20, 9223372036854775808, 12, 2);
+    build::with_sets(b"a fork set with bit 64", 21, 1, 12, 2);
+    build::with_sets(b"a fork set with bit 255", 23, 9223372036854775808, 12, 2);
+    build::with_sets(b"an undeclared variable with a set", 16, 1, 12, 2);
+    build::with_sets(
+        b"an undeclared variable with bit 255",
+        19,
+        9223372036854775808,
+        12,
+        2,
+    );
     build::with_kind(b"kind 4", 4, 4);
     build::with_kind(b"kind 255", 4, 255);
     build::with_kind(b"kind 2 for an undeclared variable", 4, 2);
@@ -152,9 +164,12 @@ pub fn rest() {
     build::with_end(b"end behind the last", 6, 8);
     build::with_end(b"end 2048", 2047, 1);
     build::with_end(b"end 2049", 2048, 1);
-    build::with_sets(b"set behind the last", 6, 1, 3, 2);
-    build::with_sets(b"set 512", 511, 1, 3, 2);
-    build::with_sets(b"set 513", 512, 1, 3, 2);
+    build::with_sets(b"set behind the last", 24, 1, 12, 2);
+    build::with_sets(b"its second word", 25, 1, 12, 2);
+    build::with_sets(b"its third word", 26, 1, 12, 2);
+    build::with_sets(b"its fourth word", 27, 1, 12, 2);
+    build::with_sets(b"word 2048 of the sets", 2047, 1, 12, 2);
+    build::with_sets(b"word 2049 of the sets", 2048, 1, 12, 2);
     build::with_kind(b"kind behind the last", 6, 2);
     build::with_kind(b"kind of variable 512", 511, 3);
     build::with_kind(b"kind 513", 512, 3);
@@ -164,7 +179,7 @@ pub fn rest() {
 fn existentials(label: &[u8], width: u16, total: u16) {
     let mut literals = [0i16; 8200];
     let mut ends = [0u16; 2056];
-    let sets = [0u64; 520];
+    let sets = [0u64; 2083];
     let mut kinds = [0u8; 520];
     fill::literals(&mut literals, width, total);
     let clauses = fill::ends(&mut ends, width, total);
@@ -178,7 +193,7 @@ fn existentials(label: &[u8], width: u16, total: u16) {
 fn universals(label: &[u8], count: u16) {
     let literals = [0i16; 8200];
     let ends = [0u16; 2056];
-    let mut sets = [0u64; 520];
+    let mut sets = [0u64; 2083];
     let mut kinds = [0u8; 520];
     fill::bits(&mut sets, count);
     fill::kinds(&mut kinds, count, 1);
@@ -193,6 +208,6 @@ pub fn borders() {
     existentials(b"a clause of 33 literals", 33, 33);
     existentials(b"8192 literals", 32, 8192);
     existentials(b"8193 literals", 32, 8193);
-    universals(b"64 universals", 64);
-    universals(b"65 universals", 65);
+    universals(b"256 universals", 256);
+    universals(b"257 universals", 257);
 }

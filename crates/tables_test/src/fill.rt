@@ -63,12 +63,13 @@ pub fn kinds(entries: &mut [u8; 520], count: u16, kind: u8) {
     }
 }
 
-// The sets of the first so many universals; the bits of more than 64 begin again.
-pub fn bits(entries: &mut [u64; 520], count: u16) {
+// The sets of the first so many universals; the bits of more than 256 begin again.
+pub fn bits(entries: &mut [u64; 2083], count: u16) {
     let mut i: usize = 0;
     while i < 520 {
         if i < count as usize {
-            entries[i] = 1u64 << ((i % 64) as u32);
+            let word = 4 * i + i % 256 / 64;
+            entries[word] = 1u64 << ((i % 64) as u32);
         }
         i += 1;
     }

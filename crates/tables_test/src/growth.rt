@@ -27,7 +27,7 @@ fn one_fork(
     state: State,
     left: u16,
     right: u16,
-    set: u64,
+    set: [u64; 4],
 ) -> State {
     let steps = state.steps;
     if adding::is_full(state, 2, left as u32 + right as u32, 1) {
@@ -36,7 +36,7 @@ fn one_fork(
     if ends.len() < 2048 {
         return state;
     }
-    if sets.len() < 512 {
+    if sets.len() < 2048 {
         return state;
     }
     if kinds.len() < 512 {
@@ -59,7 +59,7 @@ fn clear(literals: &mut [i16], ends: &mut [u16], sets: &mut [u64], kinds: &mut [
 fn grow(
     literals: &mut [i16; 8200],
     ends: &mut [u16; 2056],
-    sets: &mut [u64; 520],
+    sets: &mut [u64; 2083],
     kinds: &mut [u8; 520],
     state: State,
 ) -> State {
@@ -69,13 +69,14 @@ fn grow(
     literals[10] = 7;
     literals[11] = 4;
     literals[12] = -7;
-    one_fork(ends, sets, kinds, one, 2, 2, 0)
+    let none = [0u64; 4];
+    one_fork(ends, sets, kinds, one, 2, 2, none)
 }
 
 pub fn grown() {
     let mut literals = [0i16; 8200];
     let mut ends = [0u16; 2056];
-    let mut sets = [0u64; 520];
+    let mut sets = [0u64; 2083];
     let mut kinds = [0u8; 520];
     build::sample(&mut literals, &mut ends, &mut sets, &mut kinds);
     let state = grow(
@@ -92,7 +93,7 @@ pub fn grown() {
 fn report(
     literals: &[i16; 8200],
     ends: &[u16; 2056],
-    sets: &[u64; 520],
+    sets: &[u64; 2083],
     kinds: &[u8; 520],
     state: State,
 ) {
@@ -114,13 +115,13 @@ fn wide_kind(kind: u8) -> u64 {
     kind as u64
 }
 
-fn marks(literals: &[i16; 8200], ends: &[u16; 2056], sets: &[u64; 520], kinds: &[u8; 520]) {
+fn marks(literals: &[i16; 8200], ends: &[u16; 2056], sets: &[u64; 2083], kinds: &[u8; 520]) {
     build::line(
         b"last literal",
         dqbf::literal::variable_of(literals[8199]) as u64,
     );
     build::line(b"last end", wide_end(ends[2055]));
-    build::line(b"last set", sets[519]);
+    build::line(b"last set", sets[2082]);
     build::line(b"last kind", wide_kind(kinds[519]));
 }
 
@@ -128,7 +129,7 @@ fn marks(literals: &[i16; 8200], ends: &[u16; 2056], sets: &[u64; 520], kinds: &
 pub fn cleared() {
     let mut literals = [0i16; 8200];
     let mut ends = [0u16; 2056];
-    let mut sets = [0u64; 520];
+    let mut sets = [0u64; 2083];
     let mut kinds = [0u8; 520];
     build::sample(&mut literals, &mut ends, &mut sets, &mut kinds);
     clear_all(&mut literals, &mut ends, &mut sets, &mut kinds);
@@ -146,7 +147,7 @@ pub fn cleared() {
 fn clear_all(
     literals: &mut [i16; 8200],
     ends: &mut [u16; 2056],
-    sets: &mut [u64; 520],
+    sets: &mut [u64; 2083],
     kinds: &mut [u8; 520],
 ) {
     clear(literals, ends, sets, kinds);

@@ -75,7 +75,7 @@ fn write_kind(
 pub fn clause_lent(
     literals: &[i16; 8200],
     ends: &[u16; 2056],
-    sets: &[u64; 520],
+    sets: &[u64; 2083],
     kinds: &[u8; 520],
     state: State,
     number: u32,
@@ -86,7 +86,7 @@ pub fn clause_lent(
 pub fn variable_lent(
     literals: &[i16; 8200],
     ends: &[u16; 2056],
-    sets: &[u64; 520],
+    sets: &[u64; 2083],
     kinds: &[u8; 520],
     state: State,
     number: u32,
@@ -97,7 +97,7 @@ pub fn variable_lent(
 fn clause(state: State, number: u32) {
     let mut literals = [0i16; 8200];
     let mut ends = [0u16; 2056];
-    let mut sets = [0u64; 520];
+    let mut sets = [0u64; 2083];
     let mut kinds = [0u8; 520];
     build::sample(&mut literals, &mut ends, &mut sets, &mut kinds);
     clause_lent(&literals, &ends, &sets, &kinds, state, number);
@@ -106,7 +106,7 @@ fn clause(state: State, number: u32) {
 fn variable(state: State, number: u32) {
     let mut literals = [0i16; 8200];
     let mut ends = [0u16; 2056];
-    let mut sets = [0u64; 520];
+    let mut sets = [0u64; 2083];
     let mut kinds = [0u8; 520];
     build::sample(&mut literals, &mut ends, &mut sets, &mut kinds);
     variable_lent(&literals, &ends, &sets, &kinds, state, number);
@@ -116,7 +116,7 @@ fn variable(state: State, number: u32) {
 fn short() {
     let literals = [0i16; 8192];
     let ends = [0u16; 2048];
-    let sets = [0u64; 512];
+    let sets = [0u64; 2048];
     let kinds = [0u8; 511];
     write_clause(&literals, &ends, &sets, &kinds, build::sample_state(), 1);
     write_kind(&literals, &ends, &sets, &kinds, build::sample_state(), 1);

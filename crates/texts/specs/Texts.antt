@@ -24,7 +24,7 @@ emptyState v = record {
 
 -- before the first line
 abbrev pub startProgress : Progress
-startProgress = record { phase = 0; count = 0; places = 0; state = emptyState 0 }
+startProgress = record { phase = 0; count = 0; state = emptyState 0 }
 
 -- The whole text was read, and came to o: the reader at its end, or the line with its number.
 pub record TextRead (t : Tables) (o : Loaded) (a : TextAnswer) (now : Tables) : Type 0 where

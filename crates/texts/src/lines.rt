@@ -4,6 +4,7 @@ ghost use Prim.Native.Nat.{_*_, _≤_, _<_};
 ghost use lib.ListN.{length};
 ghost use Rattle.dqbf.specs.Limits.{clauseLimit, literalLimit, variableLimit, universalLimit};
 ghost use Rattle.dqbf.specs.Reading.{Reader, comment, header, formOf, taken};
+ghost use Rattle.sets.specs.Words.{wordsEach, asSets};
 ghost use Rattle.tables.specs.Tables.{Tables, tablesOf};
 ghost use Rattle.prefix_lines.specs.Lines.{ReadSoFar, Known, LineRead, Within};
 ghost use Rattle.texts.specs.Texts.{emptyState};
@@ -66,7 +67,6 @@ fn header_line(bound: u32, count: u32, progress: Progress) -> LineAnswer
     let next = Progress {
         phase: progress::PREFIX_LINES,
         count,
-        places: 0,
         state,
     };
     LineAnswer {
@@ -87,7 +87,7 @@ pub fn read_line(
     kinds: &mut [u8],
 ) -> LineAnswer
     requires { ⌜ (length (now line) ≤ 2 * length (now numbers)) × Within progress × (universalLimit < length (now known)) × (literalLimit ≤ length (now literals))
-        × (clauseLimit ≤ length (now ends)) × (variableLimit ≤ length (now sets)) × (variableLimit ≤ length (now kinds)) ⌝ }
+        × (clauseLimit ≤ length (now ends)) × (variableLimit ≤ length (asSets wordsEach (now sets))) × (variableLimit ≤ length (now kinds)) ⌝ }
     ensures { λ r. ⌜ ((t : Tables) (reader : Reader)
         → ReadSoFar t reader progress (tablesOf (now (literals .entry)) (now (ends .entry)) (now (sets .entry)) (now (kinds .entry))) → Known reader (now (known .entry))
         → LineRead t reader (formOf (now (line .entry))) r (tablesOf (now (literals .exit)) (now (ends .exit)) (now (sets .exit)) (now (kinds .exit)))

@@ -32,7 +32,6 @@ fn start_of_text() -> Progress
     Progress {
         phase: progress::OPENING,
         count: 0,
-        places: 0,
         state,
     }
 }
@@ -79,7 +78,7 @@ pub fn read_lines(
         (readFrom (pieces lineFeed (now (text .entry))) 0 start) r (tablesOf (now (literals .exit)) (now (ends .exit)) (now (sets .exit)) (now (kinds .exit))) ⌝ }
 {
     let mut numbers = [0u32; 16384];
-    let mut known = [0u32; 65];
+    let mut known = [0u32; 257];
     let mut progress = start_of_text();
     let mut line: u32 = 0;
     let mut at = 0;

@@ -4,6 +4,7 @@ use api::LINE_SIZE;
 use api::LITERAL_LIMIT;
 use api::LoadAnswer;
 use api::State;
+use api::TABLE_WORDS;
 use api::TEXT_LIMIT;
 use api::TIDY_LIMIT;
 use api::VARIABLE_LIMIT;
@@ -33,7 +34,7 @@ fn print_text(literals: &[i16], ends: &[u16], sets: &[u64], kinds: &[u8], state:
 fn print_tidy(text: &[u8]) {
     let mut literals = [0i16; LITERAL_LIMIT];
     let mut ends = [0u16; CLAUSE_LIMIT];
-    let mut sets = [0u64; VARIABLE_LIMIT];
+    let mut sets = [0u64; TABLE_WORDS];
     let mut kinds = [0u8; VARIABLE_LIMIT];
     let loaded = api::load(text, &mut literals, &mut ends, &mut sets, &mut kinds);
     let state = loaded.state;

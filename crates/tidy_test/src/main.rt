@@ -8,6 +8,7 @@ use api::CLAUSE_LIMIT;
 use api::LITERAL_LIMIT;
 use api::LoadAnswer;
 use api::State;
+use api::TABLE_WORDS;
 use api::VARIABLE_LIMIT;
 use libc::STDOUT_FILENO;
 
@@ -55,7 +56,7 @@ fn take_cases(file: i32, count: usize) {
     let mut label = [0u8; 200];
     let mut literals = [0i16; LITERAL_LIMIT];
     let mut ends = [0u16; CLAUSE_LIMIT];
-    let mut sets = [0u64; VARIABLE_LIMIT];
+    let mut sets = [0u64; TABLE_WORDS];
     let mut kinds = [0u8; VARIABLE_LIMIT];
     let mut text_length = 0;
     let mut records_length = 0;

@@ -7,7 +7,7 @@ ghost use Rattle.exports.specs.Calls.{After, loadWhole};
 use codec::state as state_codec;
 use dqbf::limits::CLAUSE_LIMIT;
 use dqbf::limits::LITERAL_LIMIT;
-use dqbf::limits::VARIABLE_LIMIT;
+use sets::TABLE_WORDS;
 
 // A load into buffers that are long enough. It reads none of their entries, so that nothing is decoded.
 pub fn load_whole(
@@ -18,7 +18,7 @@ pub fn load_whole(
     kinds: &mut [u8],
     state: &mut [u8],
 ) -> u64
-    requires { ⌜ (16384 ≤ length (now literals)) × (4096 ≤ length (now ends)) × (4096 ≤ length (now sets)) × (512 ≤ length (now kinds)) × (16 ≤ length (now state)) ⌝ }
+    requires { ⌜ (16384 ≤ length (now literals)) × (4096 ≤ length (now ends)) × (16384 ≤ length (now sets)) × (512 ≤ length (now kinds)) × (16 ≤ length (now state)) ⌝ }
     ensures { λ r. ⌜ _≡_ {A = After}
         (record {
           buffers = buffersOf (now (literals .exit)) (now (ends .exit)) (now (sets .exit)) (now (kinds .exit)) (now (state .exit));
@@ -28,7 +28,7 @@ pub fn load_whole(
 {
     let mut literal_table = [0i16; LITERAL_LIMIT];
     let mut end_table = [0u16; CLAUSE_LIMIT];
-    let mut set_table = [0u64; VARIABLE_LIMIT];
+    let mut set_table = [0u64; TABLE_WORDS];
     let loaded = dqdimacs::load(
         text,
         &mut literal_table,

@@ -7,7 +7,7 @@ ghost use Rattle.exports.specs.Calls.{After, runWhole};
 use codec::state as state_codec;
 use dqbf::limits::CLAUSE_LIMIT;
 use dqbf::limits::LITERAL_LIMIT;
-use dqbf::limits::VARIABLE_LIMIT;
+use sets::TABLE_WORDS;
 use steps::run;
 
 // A run over buffers that are long enough.
@@ -19,7 +19,7 @@ pub fn run_whole(
     kinds: &mut [u8],
     state: &mut [u8],
 ) -> u64
-    requires { ⌜ (16384 ≤ length (now literals)) × (4096 ≤ length (now ends)) × (4096 ≤ length (now sets)) × (16 ≤ length (now state)) ⌝ }
+    requires { ⌜ (16384 ≤ length (now literals)) × (4096 ≤ length (now ends)) × (16384 ≤ length (now sets)) × (16 ≤ length (now state)) ⌝ }
     ensures { λ r. ⌜ _≡_ {A = After}
         (record {
           buffers = buffersOf (now (literals .exit)) (now (ends .exit)) (now (sets .exit)) (now (kinds .exit)) (now (state .exit));
@@ -29,7 +29,7 @@ pub fn run_whole(
 {
     let mut literal_table = [0i16; LITERAL_LIMIT];
     let mut end_table = [0u16; CLAUSE_LIMIT];
-    let mut set_table = [0u64; VARIABLE_LIMIT];
+    let mut set_table = [0u64; TABLE_WORDS];
     buffers::read_tables(
         &mut literal_table,
         &mut end_table,

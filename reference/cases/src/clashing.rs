@@ -51,7 +51,7 @@ impl Shares {
             alone: random.below(8).min(wide.alone),
             ..wide
         };
-        random.pick(&[some, some, wide])
+        random.pick(&[some, some, some, wide, wide])
     }
 
     /// The roles of all variables, ascending. By choice the pairs stand in front or
@@ -243,7 +243,7 @@ pub(crate) fn case_of(
     last: impl Fn(&mut Prover, (u32, u32)) -> Option<Step>,
     random: &mut Random,
 ) -> Case {
-    let text = if !forked && random.chance(30) {
+    let text = if !forked && random.chance(40) {
         filled(draft, random).plain()
     } else {
         text_of(&draft, random)

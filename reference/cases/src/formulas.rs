@@ -3,6 +3,7 @@
 
 use checker::limits::{CLAUSES, TEXT_BYTES};
 
+use crate::bordered::COUNTS;
 use crate::draft::{Draft, Prefix};
 use crate::random::Random;
 
@@ -150,7 +151,7 @@ pub(crate) fn random_prefix(
 }
 
 /// The universals on one or two `a` lines, or on lines of a few each.
-fn universal_lines(random: &mut Random, universals: &[u32]) -> Vec<Prefix> {
+pub(crate) fn universal_lines(random: &mut Random, universals: &[u32]) -> Vec<Prefix> {
     let few = random.chance(40);
     let mut lines = Vec::new();
     let mut rest = universals;
@@ -167,13 +168,16 @@ fn universal_lines(random: &mut Random, universals: &[u32]) -> Vec<Prefix> {
     lines
 }
 
-/// A formula of 0 to 64 universals anywhere among the variables, on several lines
+/// A formula of 0 to 256 universals anywhere among the variables, on several lines
 /// and in any order, with empty, full and other sets. Sometimes all variables up
 /// to 512 are declared, many behind all universals, so that the tidy text is longer
 /// than a load takes.
 pub fn prefixed_formula(random: &mut Random) -> Draft {
-    let universals = random.pick(&[0, 1, 2, 10, 31, 32, 33, 63, 64, 64]);
-    let existentials = random.pick(&[0, 1, 5, 20, 60]);
+    let few = random.pick(&[0, 1, 2, 10, 31, 32, 33, 63, 64, 64]);
+    let many = random.pick(&COUNTS);
+    let universals = random.pick(&[few, few, many]);
+    let most = 4_000 / universals.max(1);
+    let existentials = random.pick(&[0, 1, 5, 20, 60]).min(most);
     let declared = universals + existentials;
     let variables = random.pick(&[declared, declared + 1, 100, 512, 512]);
     let mut numbers: Vec<u32> = (1..=variables.max(declared) as u32).collect();

@@ -3,12 +3,15 @@
 //! tables that are damaged in one place.
 
 use checker::calls::Lent;
+use checker::limits::SET_WORDS;
 use checker::state::{Counts, State};
 use checker::tables::export;
 
+use crate::bordered;
 use crate::formulas::{self, random_formula};
 use crate::prover::{records_of, Prover};
 use crate::random::Random;
+use crate::set_damage;
 
 /// Tables with a list of records that has a fair chance on them.
 pub struct LentCase {
@@ -26,7 +29,11 @@ pub fn well_formed(seed: u64, index: u64) -> LentCase {
         formulas::WIDE,
         formulas::ALIKE,
     ]);
-    let text = random_formula(random, size).plain();
+    let draft = match random.below(8) {
+        0 | 1 => bordered::formula(random),
+        _ => bordered::sometimes_spread(random_formula(random, size), 10, random),
+    };
+    let text = draft.plain();
     let start = State::load(&text).expect("drafts are within the limits");
     let mut prover = Prover::new(start, random);
     let tries = prover.random.below(40);
@@ -50,21 +57,36 @@ pub fn well_formed(seed: u64, index: u64) -> LentCase {
 fn permute_bits(lent: &mut Lent, random: &mut Random) {
     let mut order: Vec<usize> = (0..usize::from(lent.counts.universals)).collect();
     random.shuffle(&mut order);
-    for word in &mut lent.tables.sets {
-        let old = *word;
-        let moved = order.iter().enumerate();
-        *word = moved.fold(0, |new, (bit, &to)| new | (old >> bit & 1) << to);
+    for words in lent.tables.sets.chunks_exact_mut(SET_WORDS) {
+        let old = words.to_vec();
+        words.fill(0);
+        for (bit, &to) in order.iter().enumerate() {
+            words[to / 64] |= (old[bit / 64] >> (bit % 64) & 1) << (to % 64);
+        }
     }
 }
 
 /// Gives existentials and fork variables any sets inside the universals.
 fn change_sets(lent: &mut Lent, random: &mut Random) {
-    let inside = (1u64 << lent.counts.universals) - 1;
-    for (kind, word) in lent.tables.kinds.iter().zip(&mut lent.tables.sets) {
+    let universals = usize::from(lent.counts.universals);
+    let words = lent.tables.sets.chunks_exact_mut(SET_WORDS);
+    for (kind, words) in lent.tables.kinds.iter().zip(words) {
         if (*kind == 2 || *kind == 3) && random.chance(40) {
-            *word = random.word() & inside;
+            let one = random.below(SET_WORDS);
+            let all = random.chance(50);
+            for (index, word) in words.iter_mut().enumerate() {
+                if all || index == one {
+                    *word = random.word() & inside(universals, index);
+                }
+            }
         }
     }
+}
+
+/// The bits of the universals in a word of a set.
+fn inside(universals: usize, word: usize) -> u64 {
+    let bits = (0..64).filter(|bit| 64 * word + bit < universals);
+    bits.fold(0, |inside, bit| inside | 1 << bit)
 }
 
 /// Flips literals of derived clauses, which need not follow from anything.
@@ -132,7 +154,7 @@ pub fn damaged(seed: u64, index: u64) -> LentCase {
     let tables = &mut case.lent.tables;
     let counts = case.lent.counts;
     let literals = counts.literals;
-    match random.below(5) {
+    match random.below(8) {
         0 => {
             let place = place_near(literals, tables.literals.len(), random);
             tables.literals[place] = random.pick(&[0, 1, -1, 2, -3, 513, i16::MIN, i16::MAX]);
@@ -141,11 +163,8 @@ pub fn damaged(seed: u64, index: u64) -> LentCase {
             let place = place_near(counts.clauses, tables.ends.len(), random);
             tables.ends[place] = random.pick(&[0, 1, literals, literals + 1, 8_192, u16::MAX]);
         }
-        2 => {
-            let place = place_near(counts.variables, tables.sets.len(), random);
-            tables.sets[place] = random.pick(&[0, 1, 2, 3, 1 << counts.universals, u64::MAX]);
-        }
-        3 => {
+        2..=5 => set_damage::change(&mut case.lent, random),
+        6 => {
             let place = place_near(counts.variables, tables.kinds.len(), random);
             tables.kinds[place] = random.pick(&[0, 1, 2, 3, 4, 255]);
         }
@@ -155,7 +174,7 @@ pub fn damaged(seed: u64, index: u64) -> LentCase {
 }
 
 /// A place below the count, around it, or the last of the table.
-fn place_near(count: u16, size: usize, random: &mut Random) -> usize {
+pub(crate) fn place_near(count: u16, size: usize, random: &mut Random) -> usize {
     let count = usize::from(count);
     let below = random.below(count + 1);
     let around = (count + random.below(3)).saturating_sub(1);

@@ -3,6 +3,7 @@
 
 #![forbid(unsafe_code)]
 
+pub mod bordered;
 pub mod case;
 pub mod clashing;
 pub mod container;
@@ -17,6 +18,7 @@ pub mod prover;
 pub mod published;
 pub mod random;
 pub mod seeded;
+pub mod set_damage;
 pub mod shaped;
 pub mod stepped;
 pub mod tabled;

@@ -4,6 +4,7 @@
 use checker::records::record;
 use checker::state::State;
 
+use crate::bordered;
 use crate::case::Case;
 use crate::clashing;
 use crate::damage::{damaged_records, damaged_text};
@@ -41,8 +42,19 @@ pub fn prefixed(seed: u64, index: u64) -> Case {
     Case::checked("seeded/prefix", text, records_of(&prover.steps))
 }
 
-/// A formula that can be saturated fast.
+/// A case beside those of [`case`]: sets of several words.
+pub fn bordered(seed: u64, index: u64) -> Case {
+    bordered::case(&mut Random::for_case(seed ^ 3, index))
+}
+
+/// A formula that can be saturated fast, sometimes with bits anywhere in the words
+/// of its sets.
 fn formula(random: &mut Random) -> Draft {
+    let draft = small_formula(random);
+    bordered::sometimes_spread(draft, 10, random)
+}
+
+fn small_formula(random: &mut Random) -> Draft {
     match random.below(20) {
         0..=2 => random_formula(random, formulas::TINY),
         3..=8 => random_formula(random, formulas::SMALL),

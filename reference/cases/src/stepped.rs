@@ -13,7 +13,7 @@ use crate::draft::Draft;
 use crate::formulas::{self, random_formula};
 use crate::prover::{records_of, Prover};
 use crate::random::Random;
-use crate::{clashing, fixed, published, seeded, wide};
+use crate::{bordered, clashing, fixed, published, seeded, wide};
 
 const SEED: u64 = 16;
 /// Fixed cases on a text of so many bytes are taken as one list.
@@ -43,7 +43,9 @@ pub fn cases() -> Vec<Case> {
     let mixed = (0..200).map(|index| mixed(SEED, index)).collect();
     let clashes = (0..80).map(|index| clashes(SEED, index)).collect();
     let wide = (0..40).map(|index| wide_ones(SEED, index)).collect();
-    [short, joined(long), theorem, seeded, mixed, clashes, wide].concat()
+    let words = (0..20).map(|index| set_words(SEED, index)).collect();
+    let fixed = [short, joined(long), theorem].concat();
+    [fixed, seeded, mixed, clashes, wide, words].concat()
 }
 
 fn size(case: &Case) -> usize {
@@ -118,6 +120,18 @@ fn wide_ones(seed: u64, index: u64) -> Case {
     with_refused("seeded/wide", start, other, random)
 }
 
+/// Permitted steps with forks and reductions between them that a word of the sets
+/// decides.
+fn set_words(seed: u64, index: u64) -> Case {
+    let random = &mut Random::for_case(seed ^ 7, index);
+    let (draft, names) = bordered::start(random);
+    let text = draft.plain();
+    let start = State::load(&text).expect("drafts are within the limits");
+    let other = |prover: &mut Prover| records_of(&bordered::last_steps(prover, names));
+    let records = interleaved(&mut Prover::new(start, random), other);
+    Case::checked("seeded/set words", text, records)
+}
+
 /// Permitted steps with others between them for clauses 1 and 2, or for those that
 /// forks have made of them.
 fn with_refused(
@@ -148,8 +162,10 @@ fn interleaved(prover: &mut Prover, other: impl Fn(&mut Prover) -> Vec<u8>) -> V
         prover.wander(3);
         records.extend(records_of(&prover.steps[before..]));
         let other = other(prover);
-        // It may be permitted by chance.
-        let _ = prover.state.step(&other);
+        for record in other.chunks(RECORD) {
+            // It may be permitted by chance.
+            let _ = prover.state.step(record);
+        }
         records.extend(other);
     }
     records

@@ -31,7 +31,7 @@ const LARGE: [&str; 4] = [
 
 /// Texts of this module with their labels; braces and strokes as in
 /// `data/texts.txt`.
-const TEXTS: [(&str, &str); 23] = [
+const TEXTS: [(&str, &str); 29] = [
     ("nothing in use", "c|c  p|p  cnf 0  0|"),
     ("no universal", "p cnf 3 2|e 3 1 0|d 2 0|3 -2 0|1 0|"),
     ("no existential", "p cnf 3 2|a 3 0|a 1 2 0|-3 1 0|2 0|"),
@@ -95,6 +95,26 @@ const TEXTS: [(&str, &str); 23] = [
         "64 universals of three digits",
         "p cnf 512 2|a {449..512}0|d 1 512 449 0|e 448 0|-1 448 0|512 -449 1 0|",
     ),
+    (
+        "e at the borders of words",
+        "p cnf 304 0|a {1..64}0|e 301 0|a 65 0|e 302 0|a {66..128}0|e 303 0|a 129 0|e 304 0|",
+    ),
+    (
+        "e behind 192 universals and behind 193",
+        "p cnf 300 0|a {1..192}0|e 298 0|a 193 0|e 297 0|a {194..256}0|d 299 193 64 256 1 0|",
+    ),
+    (
+        "256 universals, rising",
+        "p cnf 260 1|a {1..256}0|e 258 0|d 257 256 193 192 129 128 65 64 1 0|-257 258 256 -1 0|",
+    ),
+    (
+        "256 universals, the last first",
+        "p cnf 258 1|a {129..256}0|a {1..128}0|d 257 256 193 192 129 128 65 64 1 0|257 -193 0|",
+    ),
+    (
+        "256 universals of three digits",
+        "p cnf 512 2|a {257..512}0|d 1 512 257 0|e 256 0|-1 256 0|512 -257 1 0|",
+    ),
     // 32,769 bytes, one more than a load takes.
     (
         "longer than a load takes",
@@ -104,6 +124,11 @@ const TEXTS: [(&str, &str); 23] = [
     (
         "longer than 65535 bytes",
         "p cnf 512 1|a {449..512}0|e {100..355}0|-512 355 0|",
+    ),
+    // The longest that 64 universals can have is 163,495 bytes long.
+    (
+        "longer than 64 universals make it",
+        "p cnf 512 1|a {257..512}0|e {1..160}0|-512 160 0|",
     ),
 ];
 

@@ -8,7 +8,7 @@ use crate::case::Case;
 use crate::clashing::{case_of, formula_of, opposites_of, Shares};
 use crate::draft::Draft;
 use crate::formulas::{self, random_formula};
-use crate::prover::Prover;
+use crate::prover::{resolution, Prover};
 use crate::random::Random;
 use crate::seeded::text_of;
 
@@ -56,8 +56,24 @@ pub fn case(random: &mut Random) -> Case {
         0..=39 if with_pair => (opposites(random), true),
         _ => (draft(random, with_pair), false),
     };
-    let last = |prover: &mut Prover, clauses| step(prover, clauses, with_pair);
+    let last = |prover: &mut Prover, clauses| match step(prover, clauses, with_pair) {
+        Some(found) if prover.random.chance(6) => Some(with_turned_pivot(found)),
+        found => found,
+    };
     case_of("seeded/wide", start, last, random)
+}
+
+/// A resolution whose pivot stands in the second clause, its complement in the
+/// first.
+fn with_turned_pivot(step: Step) -> Step {
+    match step {
+        Step::Resolution {
+            first,
+            second,
+            pivot,
+        } => resolution(first, second, -pivot),
+        other => other,
+    }
 }
 
 /// A text with two clauses in one line, which mostly has more than 32 different

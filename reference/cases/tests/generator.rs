@@ -34,18 +34,18 @@ fn a_seed_gives_the_same_cases_on_every_machine() {
 }
 
 const SEED_1: [&str; 12] = [
-    "bad 6 23 14",
-    "refuted 18 27",
+    "bad 1 23 39",
+    "refuted 18 33",
     "bad 11 25",
     "bad 1 23 15",
-    "open 2",
+    "formula 1 10",
     "bad 1 23 487",
     "bad 1 20",
-    "bad 7 23 331",
+    "bad 3 23 331",
     "bad 64 21",
     "bad 3 24",
     "refuted 1 26",
-    "bad 68 20",
+    "bad 93 22",
 ];
 
 #[test]
@@ -201,7 +201,8 @@ fn numbers_have_every_digit_at_every_place() {
 fn tidy_texts_are_of_many_kinds() {
     let cases = tidied::cases();
     let (mut refused, mut tidy, mut forked, mut derived) = (0, 0, 0, 0);
-    let (mut full, mut unordered, mut most, mut lengths) = (0, 0, 0, Vec::new());
+    let (mut full, mut fullest, mut unordered, mut most) = (0, 0, 0, 0);
+    let mut lengths = Vec::new();
     for case in &cases {
         let lent = &mut Lent::zero();
         if lent.load(&case.text).is_err() {
@@ -216,20 +217,24 @@ fn tidy_texts_are_of_many_kinds() {
         forked += usize::from(counts.variables > counts.header_variables);
         derived += usize::from(counts.steps > 0);
         full += usize::from(counts.universals == 64);
+        fullest += usize::from(counts.universals == 256);
         most += usize::from(counts.header_variables == 512);
-        let kinds = lent.tables.kinds.iter().zip(&lent.tables.sets);
-        let bits = kinds.filter(|(&kind, _)| kind == 1).map(|(_, &set)| set);
-        unordered += usize::from(!bits.is_sorted());
+        let kinds = lent.tables.kinds.iter().zip(lent.tables.sets.chunks(4));
+        let sets = kinds.filter(|(&kind, _)| kind == 1).map(|(_, set)| set);
+        let highest_first = sets.map(|set| set.iter().rev());
+        unordered += usize::from(!highest_first.is_sorted_by(|a, b| a.clone().le(b.clone())));
         lengths.push(length);
     }
     assert!((250..=400).contains(&cases.len()), "{}", cases.len());
     assert!((10..40).contains(&refused) && tidy < 60, "{refused} {tidy}");
     assert!(forked > 60 && derived > 120, "{forked} {derived}");
     assert!(full > 8 && most > 15, "{full} {most}");
+    assert!(fullest > 15, "{fullest}");
     assert!(unordered > 80, "{unordered}");
     let longer = |limit| lengths.iter().filter(|&&length| length > limit).count();
-    assert_eq!((longer(32_768), longer(65_535)), (2, 1));
-    assert!(tidied::printed(&cases).len() < 300_000);
+    let limits = [32_768, 65_535, 163_840];
+    assert_eq!(limits.map(longer), [3, 2, 1]);
+    assert!(tidied::printed(&cases).len() < 500_000);
 }
 
 #[test]

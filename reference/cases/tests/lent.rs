@@ -34,7 +34,8 @@ fn runs_keep_tables_well_formed_and_earlier_entries() {
             was.literals[same(old.literals)]
         );
         assert_eq!(new.ends[same(old.clauses)], was.ends[same(old.clauses)]);
-        assert_eq!(new.sets[same(old.variables)], was.sets[same(old.variables)]);
+        let words = same(4 * old.variables);
+        assert_eq!(new.sets[words], was.sets[words]);
         assert_eq!(
             new.kinds[same(old.variables)],
             was.kinds[same(old.variables)]

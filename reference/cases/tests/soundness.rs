@@ -1,6 +1,7 @@
 //! Document 01, "The refutation statement": no accepted step makes a true formula
 //! false. (That nothing true is refuted: `differential/tests/soundness.rs`.)
 
+use cases::bordered::sometimes_spread;
 use cases::formulas::{self, random_formula};
 use cases::prover::Prover;
 use cases::random::Random;
@@ -40,7 +41,8 @@ fn no_accepted_step_makes_a_true_formula_false() {
     for index in 0..2_000 {
         let random = &mut Random::for_case(12, index);
         let size = random.pick(&[formulas::SMALL, formulas::FORKED]);
-        let text = random_formula(random, size).plain();
+        let draft = random_formula(random, size);
+        let text = sometimes_spread(draft, 30, random).plain();
         if decide(&text) != Some(true) {
             continue;
         }

@@ -1,4 +1,4 @@
-//! Document 01, "The four lent tables", its last paragraph, with Note 1 of
+//! Document 01, "The four lent tables", its last paragraph, with Notes 1 and 6 of
 //! document 02: the driver's calls over byte buffers, each table as its entries in
 //! little-endian bytes and the state as its eight counts of 16 bits.
 
@@ -13,7 +13,7 @@ use crate::verdict::Verdict;
 pub const SIZES: [usize; 5] = [
     2 * limits::LITERALS,
     2 * limits::CLAUSES,
-    8 * limits::VARIABLES,
+    8 * limits::WORDS,
     limits::VARIABLES,
     16,
 ];

@@ -1,6 +1,6 @@
 //! Document 01, "The four lent tables", "Formula text" and "Numbers of
-//! refusal": the limits, each named once, and what they make of Note 1 of
-//! document 02.
+//! refusal", with Note 6 of document 02: the limits, each named once, and what
+//! they make of its Note 1.
 
 /// Bytes of a formula text.
 pub const TEXT_BYTES: usize = 32_768;
@@ -8,10 +8,14 @@ pub const TEXT_BYTES: usize = 32_768;
 pub const RECORD_BYTES: usize = 32_768;
 /// Bytes of one step record.
 pub const RECORD: usize = 16;
-/// Variables in use; also the entries of the sets and of the kinds.
+/// Variables in use; also the entries of the kinds.
 pub const VARIABLES: usize = 512;
 /// Universals of a formula.
-pub const UNIVERSALS: usize = 64;
+pub const UNIVERSALS: usize = 256;
+/// Words of 64 bits for one dependency set.
+pub const SET_WORDS: usize = 4;
+/// Entries of the sets.
+pub const WORDS: usize = SET_WORDS * VARIABLES;
 /// Clauses; also the entries of the clause ends.
 pub const CLAUSES: usize = 2_048;
 /// Literals of all clauses; also the entries of the literals.
@@ -21,5 +25,5 @@ pub const WIDTH: usize = 32;
 /// Digits of a number in a formula text.
 pub const DIGITS: usize = 5;
 /// Bytes of an output that is long enough for every tidy text; the longest has
-/// 163,495 (`tests/tidy.rs`).
-pub const TIDY_BYTES: usize = 163_840;
+/// 310,183 (`tests/tidy.rs`).
+pub const TIDY_BYTES: usize = 311_296;

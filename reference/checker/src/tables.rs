@@ -1,5 +1,6 @@
-//! Document 01, "The four lent tables": what the tables must hold for a state,
-//! as entries and as the driver's little-endian bytes.
+//! Document 01, "The four lent tables", with Note 6 of document 02: what the
+//! tables must hold for a state, as entries and as the driver's little-endian
+//! bytes.
 
 use crate::clause::{numbers_of, Clause};
 use crate::limits;
@@ -12,7 +13,7 @@ pub struct Tables {
     pub literals: Vec<i16>,
     /// The end of clause 1, 2, .. in the literals.
     pub ends: Vec<u16>,
-    /// The dependency set of variable 1, 2, ..
+    /// The dependency set of variable 1, 2, .., four words each, lowest bits first.
     pub sets: Vec<u64>,
     /// 0 undeclared, 1 universal, 2 existential, 3 fork.
     pub kinds: Vec<u8>,
@@ -24,7 +25,7 @@ impl Tables {
         Tables {
             literals: vec![0; limits::LITERALS],
             ends: vec![0; limits::CLAUSES],
-            sets: vec![0; limits::VARIABLES],
+            sets: vec![0; limits::WORDS],
             kinds: vec![0; limits::VARIABLES],
         }
     }
@@ -33,7 +34,7 @@ impl Tables {
     pub fn are_long_enough(&self) -> bool {
         self.literals.len() >= limits::LITERALS
             && self.ends.len() >= limits::CLAUSES
-            && self.sets.len() >= limits::VARIABLES
+            && self.sets.len() >= limits::WORDS
             && self.kinds.len() >= limits::VARIABLES
     }
 
@@ -41,7 +42,7 @@ impl Tables {
     pub fn overwrite(&mut self, fixed: &Tables) {
         self.literals[..limits::LITERALS].copy_from_slice(&fixed.literals);
         self.ends[..limits::CLAUSES].copy_from_slice(&fixed.ends);
-        self.sets[..limits::VARIABLES].copy_from_slice(&fixed.sets);
+        self.sets[..limits::WORDS].copy_from_slice(&fixed.sets);
         self.kinds[..limits::VARIABLES].copy_from_slice(&fixed.kinds);
     }
 
@@ -116,8 +117,8 @@ pub fn export(state: &State) -> Tables {
         literals: padded(literals_of(state.clauses()), limits::LITERALS),
         ends: padded(ends_of(state.clauses()), limits::CLAUSES),
         sets: padded(
-            variables.iter().map(|v| word(state, v)).collect(),
-            limits::VARIABLES,
+            variables.iter().flat_map(|v| words(state, v)).collect(),
+            limits::WORDS,
         ),
         kinds: padded(
             variables.iter().map(|v| v.kind as u8).collect(),
@@ -150,9 +151,16 @@ fn ends_of(clauses: &[Clause]) -> Vec<u16> {
     ends.collect()
 }
 
-/// A set as a word: universals take bits 0, 1, .. in order of declaration.
-fn word(state: &State, variable: &Variable) -> u64 {
-    let bits = state.universals().iter().enumerate();
-    bits.filter(|(_, universal)| variable.set.contains(universal))
-        .fold(0, |word, (bit, _)| word | 1 << bit)
+/// A set as its words: universals take bits 0, 1, .. in order of declaration,
+/// and every word holds the next 64 of them.
+fn words(state: &State, variable: &Variable) -> Vec<u64> {
+    let mut places = state.universals().chunks(64);
+    let word = |universals: &[u32]| {
+        let bits = universals.iter().enumerate();
+        bits.filter(|(_, universal)| variable.set.contains(universal))
+            .fold(0, |word, (bit, _)| word | 1 << bit)
+    };
+    (0..limits::SET_WORDS)
+        .map(|_| places.next().map_or(0, word))
+        .collect()
 }

@@ -1,14 +1,18 @@
 //! Document 01, "The four lent tables", the paragraph "The tables are well
-//! formed when": its sixteen conditions in order, each a function of its own
-//! that is safe on any contents, and the state behind well-formed tables.
+//! formed when", with Note 6 of document 02: its sixteen conditions in order,
+//! each a function of its own that is safe on any contents, and the state behind
+//! well-formed tables.
 
-use std::collections::BTreeSet;
+use std::collections::{BTreeMap, BTreeSet};
 
 use crate::clause::Literal;
 use crate::limits;
 use crate::refusal::Number;
 use crate::state::{Counts, Kind, State, Variable};
 use crate::tables::Tables;
+
+/// A dependency set as the places of its bits.
+type Places = BTreeSet<usize>;
 
 /// The number of conditions.
 pub const CONDITIONS: usize = 16;
@@ -72,7 +76,7 @@ impl<'a> Lent<'a> {
         Lent {
             literals: &tables.literals[..limits::LITERALS],
             ends: &tables.ends[..limits::CLAUSES],
-            sets: &tables.sets[..limits::VARIABLES],
+            sets: &tables.sets[..limits::WORDS],
             kinds: &tables.kinds[..limits::VARIABLES],
             header_variables: counts.header_variables.into(),
             variables: counts.variables.into(),
@@ -123,7 +127,7 @@ impl<'a> Lent<'a> {
 
     /// (3) The universals are the entries of kind 1.
     fn universals_are_kind_1(&self) -> bool {
-        self.universals == self.words_of_kind(|kind| kind == 1).count() as u64
+        self.universals == self.sets_of_kind(|kind| kind == 1).count() as u64
     }
 
     /// (4) Clauses are formula clauses, accepted steps and fork variables.
@@ -167,22 +171,23 @@ impl<'a> Lent<'a> {
 
     /// (10) The universals' sets are single different bits that fill the lowest places.
     fn universal_sets_fill_the_lowest_bits(&self) -> bool {
-        let words: Vec<u64> = self.words_of_kind(|kind| kind == 1).collect();
-        let different: BTreeSet<u64> = words.iter().copied().collect();
-        let lowest: BTreeSet<u64> = (0..words.len().min(64)).map(|bit| 1 << bit).collect();
-        words.len() <= 64 && different == lowest
+        let sets: Vec<Places> = self.sets_of_kind(|kind| kind == 1).collect();
+        let lowest: Places = (0..sets.len()).collect();
+        // So many single bits fill so many places only if they are different.
+        sets.iter().all(|set| set.len() == 1) && union(sets) == lowest
     }
 
     /// (11) Every other declared or fork set lies inside these.
     fn other_sets_lie_inside(&self) -> bool {
-        let all = self.words_of_kind(|kind| kind == 1).fold(0, |a, b| a | b);
-        self.words_of_kind(|kind| kind == 2 || kind == 3)
-            .all(|word| word & !all == 0)
+        let all = union(self.sets_of_kind(|kind| kind == 1));
+        self.sets_of_kind(|kind| kind == 2 || kind == 3)
+            .all(|set| set.is_subset(&all))
     }
 
     /// (13) Undeclared variables have set 0.
     fn undeclared_have_set_0(&self) -> bool {
-        self.words_of_kind(|kind| kind == 0).all(|word| word == 0)
+        self.sets_of_kind(|kind| kind == 0)
+            .all(|set| set.is_empty())
     }
 
     /// (14) Kind 3 stands on all numbers above V in use and nowhere else.
@@ -203,7 +208,7 @@ impl<'a> Lent<'a> {
     fn rest_is_zero(&self) -> bool {
         all_zero(self.literals, self.literal_count)
             && all_zero(self.ends, self.clauses)
-            && all_zero(self.sets, self.variables)
+            && all_zero(self.sets, limits::SET_WORDS as u64 * self.variables)
             && all_zero(self.kinds, self.variables)
     }
 
@@ -229,23 +234,24 @@ impl<'a> Lent<'a> {
     }
 
     /// Kind and set of variable 1, 2, .. in use; what lies behind is left to (16).
-    fn in_use(&self) -> impl Iterator<Item = (u8, u64)> + 'a {
-        let entries = self.kinds.iter().copied().zip(self.sets.iter().copied());
+    fn in_use(&self) -> impl Iterator<Item = (u8, &'a [u64])> + 'a {
+        let words = self.sets.chunks_exact(limits::SET_WORDS);
+        let entries = self.kinds.iter().copied().zip(words);
         entries.take(self.variables as usize)
     }
 
-    fn words_of_kind(&self, wanted: fn(u8) -> bool) -> impl Iterator<Item = u64> + 'a {
+    fn sets_of_kind(&self, wanted: fn(u8) -> bool) -> impl Iterator<Item = Places> + 'a {
         let entries = self.in_use().filter(move |&(kind, _)| wanted(kind));
-        entries.map(|(_, word)| word)
+        entries.map(|(_, words)| places(words))
     }
 
     /// The state of well-formed tables.
     fn state(&self) -> State {
         let clause = |stretch: &[i16]| stretch.iter().map(|&l| Literal::of(l.into())).collect();
         let universals = self.universals_by_bit();
-        let variables = self.in_use().map(|(kind, word)| Variable {
+        let variables = self.in_use().map(|(kind, words)| Variable {
             kind: kind_numbered(kind),
-            set: members(word, &universals),
+            set: places(words).iter().map(|&bit| universals[bit]).collect(),
         });
         State {
             header_variables: self.header_variables as usize,
@@ -261,9 +267,10 @@ impl<'a> Lent<'a> {
     fn universals_by_bit(&self) -> Vec<u32> {
         let numbered = (1..).zip(self.in_use());
         let universals = numbered.filter(|&(_, (kind, _))| kind == 1);
-        let mut by_word: Vec<(u64, u32)> = universals.map(|(n, (_, w))| (w, n)).collect();
-        by_word.sort_unstable();
-        by_word.into_iter().map(|(_, number)| number).collect()
+        let by_bit: BTreeMap<Places, u32> = universals
+            .map(|(n, (_, words))| (places(words), n))
+            .collect();
+        by_bit.into_values().collect()
     }
 }
 
@@ -276,9 +283,16 @@ fn kind_numbered(kind: u8) -> Kind {
     }
 }
 
-fn members(word: u64, universals: &[u32]) -> BTreeSet<u32> {
-    let bits = universals.iter().enumerate();
-    bits.filter(|(bit, _)| word >> bit & 1 == 1)
-        .map(|(_, &universal)| universal)
+/// The places of the bits that are set, the lowest word first.
+fn places(words: &[u64]) -> Places {
+    let set = |place: &usize| words[place / 64] >> (place % 64) & 1 == 1;
+    let words_that_hold = (0..words.len()).filter(|&word| words[word] != 0);
+    words_that_hold
+        .flat_map(|word| 64 * word..64 * (word + 1))
+        .filter(set)
         .collect()
+}
+
+fn union(sets: impl IntoIterator<Item = Places>) -> Places {
+    sets.into_iter().flatten().collect()
 }

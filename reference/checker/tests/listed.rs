@@ -21,5 +21,5 @@ fn the_examples_are_listed() {
         assert_eq!(bytes("expected"), format!("{first}\n").as_bytes());
         compared += 1;
     }
-    assert!(compared >= 9, "{compared}");
+    assert!(compared >= 10, "{compared}");
 }

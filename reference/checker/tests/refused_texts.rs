@@ -136,13 +136,13 @@ fn two_faults_on_one_line() {
         ("p cnf 2 2|e 1 2 0|1 -1 0|", 3, 13),
         ("p cnf 2 2|e 1 2 0|1 2", 3, 10),
     ]);
-    let universals = named(1..=65);
+    let universals = named(1..=257);
     let wide = named(1..=33);
     let pairs = named((1..=17).flat_map(|v| [v, -v]));
     expect(&[
         (&format!("p cnf 9 0|a {universals}0|"), 2, 11),
-        (&format!("p cnf 99 0|e 65 0|a {universals}0|"), 3, 11),
-        (&format!("p cnf 99 0|a {universals}-1 0|"), 2, 10),
+        (&format!("p cnf 300 0|e 257 0|a {universals}0|"), 3, 11),
+        (&format!("p cnf 300 0|a {universals}-1 0|"), 2, 10),
         (&format!("p cnf 9 1|e 1 0|{wide}0|"), 3, 11),
         (&format!("p cnf 99 1|e {wide}0|{wide}0|"), 3, 11),
         (&format!("p cnf 99 1|e {wide}0|{wide}x 0|"), 3, 10),
@@ -154,13 +154,13 @@ fn two_faults_on_one_line() {
 #[test]
 fn universals_are_counted_as_different_numbers() {
     let first = named(1..=40);
-    let second = named(41..=64);
+    let second = named(41..=256);
     expect(&[
-        (&format!("p cnf 99 0|a {first}0|a {second}0|"), 0, 0),
-        (&format!("p cnf 99 0|a {first}0|a {second}65 0|"), 3, 11),
-        (&format!("p cnf 99 0|a {first}0|a {second}64 0|"), 3, 12),
-        (&format!("p cnf 99 0|a {first}0|a {second}1 0|"), 3, 12),
-        (&format!("p cnf 99 0|a {first}0|a {second}100 0|"), 3, 11),
+        (&format!("p cnf 300 0|a {first}0|a {second}0|"), 0, 0),
+        (&format!("p cnf 300 0|a {first}0|a {second}257 0|"), 3, 11),
+        (&format!("p cnf 300 0|a {first}0|a {second}256 0|"), 3, 12),
+        (&format!("p cnf 300 0|a {first}0|a {second}1 0|"), 3, 12),
+        (&format!("p cnf 300 0|a {first}0|a {second}301 0|"), 3, 11),
     ]);
 }
 

@@ -169,27 +169,57 @@ fn zero_tables_have_a_text() {
 fn the_a_line_goes_by_bits() {
     let mut lent = Lent::zero();
     lent.load(b"p cnf 4 0\na 1 2 3 0\nd 4 1 3 0\n").unwrap();
-    lent.tables.sets[..4].copy_from_slice(&[4, 1, 2, 6]);
+    for (variable, word) in [4, 1, 2, 6].into_iter().enumerate() {
+        lent.tables.sets[4 * variable] = word;
+    }
     let mut out = [0; 30];
     assert_eq!(lent.write(&mut out), Ok(30));
     assert_eq!(&out[..], b"p cnf 4 0\na 2 3 1 0\nd 4 1 3 0\n".as_slice());
 }
 
+/// Members in all four words; their bits fall where their numbers rise.
 #[test]
-fn sixty_four_universals_and_512_variables() {
-    let (universals, existentials) = (numbers(449..=512), numbers(1..=448));
-    let text = format!("p cnf 512 0\na {universals}0\ne {existentials}0\n");
+fn sets_across_words() {
+    let falling: String = (1..=256).rev().map(|number| format!("{number} ")).collect();
+    let prefix = format!("p cnf 259 0|a {falling}0|");
+    let lines = "d 257 1 64 65 128 129 192 193 256 0|d 258 64 0|d 259 193 0|";
+    let untidy = "d 259 193 0|d 257 256 1 193 64 192 65 129 128 0|d 258 64 64 0|";
+    let written = tidy(&format!("{prefix}{untidy}"));
+    assert_eq!(written, format!("{prefix}{lines}"));
+    assert_eq!(tidy(&written), written);
+}
+
+/// A formula of 512 variables whose last ones are so many universals, which all
+/// others see.
+fn full_sets(universals: usize) -> String {
+    let existentials = 512 - universals;
+    let (named, others) = (numbers(existentials + 1..=512), numbers(1..=existentials));
+    format!("p cnf 512 0\na {named}0\ne {others}0\n")
+}
+
+#[test]
+fn many_universals_and_512_variables() {
+    // Lines of numbers of three digits: more than a load takes.
+    let lengths = [
+        12 + 260 + 448 * 260 + 9 * 2 + 90 * 3 + 349 * 4,
+        12 + 1_028 + 256 * 1_028 + 9 * 2 + 90 * 3 + 157 * 4,
+    ];
+    for (universals, length) in [64, 256].into_iter().zip(lengths) {
+        assert_full_sets(universals, length);
+    }
+}
+
+fn assert_full_sets(universals: usize, length: usize) {
+    let text = full_sets(universals);
     let written = tidy::text(&loaded(text.as_bytes()));
-    let mut wanted = format!("p cnf 512 0\na {universals}0\n");
-    for existential in 1..=448 {
-        wanted += &format!("d {existential} {universals}0\n");
+    let existentials = 512 - universals;
+    let members = numbers(existentials + 1..=512);
+    let mut wanted = format!("p cnf 512 0\na {members}0\n");
+    for existential in 1..=existentials {
+        wanted += &format!("d {existential} {members}0\n");
     }
     assert_eq!(written, wanted);
-    // 448 lines of 64 numbers of three digits: more than a load takes.
-    assert_eq!(
-        written.len(),
-        12 + 260 + 448 * 260 + 9 * 2 + 90 * 3 + 349 * 4
-    );
+    assert_eq!(written.len(), length);
     assert!(written.len() > TEXT_BYTES && written.len() < TIDY_BYTES);
     let mut lent = Lent::zero();
     lent.load(text.as_bytes()).unwrap();
@@ -255,7 +285,7 @@ fn an_output_that_is_always_long_enough() {
             }
         }
     }
-    assert_eq!(most, (163_495, 512, 64, 448));
+    assert_eq!(most, (310_183, 512, 256, 256));
     assert!(most.0 <= TIDY_BYTES);
     assert_eq!(longest_tables().write(&mut vec![0; TIDY_BYTES]), Ok(most.0));
     assert_eq!(
@@ -267,10 +297,8 @@ fn an_output_that_is_always_long_enough() {
 /// Tables with the longest text; no load makes them, since their clauses alone
 /// are too long for one.
 fn longest_tables() -> Lent {
-    let (universals, existentials) = (numbers(449..=512), numbers(1..=448));
-    let text = format!("p cnf 512 0\na {universals}0\ne {existentials}0\n");
     let mut lent = Lent::zero();
-    lent.load(text.as_bytes()).unwrap();
+    lent.load(full_sets(256).as_bytes()).unwrap();
     let wide = LITERALS / WIDTH;
     for (place, literal) in lent.tables.literals.iter_mut().enumerate() {
         *literal = -((place % WIDTH) as i16 + 481);
@@ -290,8 +318,7 @@ fn longest_tables() -> Lent {
 /// and clauses fill the text that is loaded.
 #[test]
 fn the_longest_text_of_a_load() {
-    let (universals, existentials) = (numbers(449..=512), numbers(1..=448));
-    let mut text = format!("p cnf 512 2048\na {universals}0\ne {existentials}0\n");
+    let mut text = full_sets(256).replace("p cnf 512 0", "p cnf 512 2048");
     let mut left = TEXT_BYTES - text.len() - 2 * CLAUSES;
     for _ in 0..CLAUSES {
         let mut variable = 512;
@@ -308,8 +335,8 @@ fn the_longest_text_of_a_load() {
     }
     assert_eq!((text.len(), left), (TEXT_BYTES, 0));
     let written = tidy::text(&loaded(text.as_bytes())).len();
-    assert_eq!(written, TEXT_BYTES - "e 0\n".len() + 448 * (4 + 64 * 4));
-    assert_eq!(written, 149_244);
+    assert_eq!(written, TEXT_BYTES - "e 0\n".len() + 256 * (4 + 256 * 4));
+    assert_eq!(written, 295_932);
 }
 
 /// The driver's header has the same size.

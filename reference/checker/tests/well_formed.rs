@@ -26,7 +26,10 @@ fn the_sample_is_laid_out_as_stated() {
     let Lent { tables, counts } = sample();
     assert_eq!(tables.literals[..10], [1, 3, 4, 2, 1, 3, 6, 4, -6, 0]);
     assert_eq!(tables.ends[..6], [3, 4, 7, 9, 9, 0]);
-    assert_eq!(tables.sets[..7], [1, 2, 1, 2, 0, 0, 0]);
+    let first_words: Vec<u64> = tables.sets.iter().copied().step_by(4).collect();
+    assert_eq!(first_words[..7], [1, 2, 1, 2, 0, 0, 0]);
+    let mut later_words = tables.sets.chunks(4).flat_map(|set| &set[1..]);
+    assert!(later_words.all(|&word| word == 0));
     assert_eq!(tables.kinds[..7], [1, 1, 2, 2, 0, 3, 0]);
     assert_eq!(counts.array(), [5, 6, 2, 2, 5, 9, 2, 5]);
     assert_eq!(broken(&tables, &counts), []);
@@ -42,7 +45,9 @@ const DAMAGES: &[Damage] = &[
         &[2, 8, 14, 16],
     ),
     (|_, c| c.universals = 3, &[3]),
-    (|_, c| c.universals = 65, &[1, 3]),
+    (|_, c| c.universals = 65, &[3]),
+    (|_, c| c.universals = 256, &[3]),
+    (|_, c| c.universals = 257, &[1, 3]),
     (|_, c| c.steps = 3, &[4]),
     (|_, c| c.steps = 65_535, &[4]),
     (|_, c| (c.formula_clauses, c.steps) = (4, 0), &[9]),
@@ -59,15 +64,15 @@ const DAMAGES: &[Damage] = &[
     (|t, _| t.literals[3] = i16::MIN, &[8, 9]),
     (|t, _| t.literals[3] = 6, &[9]),
     (|t, _| t.literals[8] = 5, &[8]),
-    (|t, _| t.sets[1] = 4, &[10, 11]),
-    (|t, _| t.sets[1] = 1, &[10, 11]),
-    (|t, _| t.sets[1] = 3, &[10]),
-    (|t, _| t.sets[1] = 0, &[10, 11]),
-    (|t, _| t.sets[3] = 4, &[11]),
-    (|t, _| t.sets[5] = 1 << 63, &[11]),
+    (|t, _| t.sets[4] = 4, &[10, 11]),
+    (|t, _| t.sets[4] = 1, &[10, 11]),
+    (|t, _| t.sets[4] = 3, &[10]),
+    (|t, _| t.sets[4] = 0, &[10, 11]),
+    (|t, _| t.sets[12] = 4, &[11]),
+    (|t, _| t.sets[20] = 1 << 63, &[11]),
     (|t, _| t.kinds[4] = 4, &[12]),
     (|t, _| t.kinds[4] = 255, &[12]),
-    (|t, _| t.sets[4] = 1, &[13]),
+    (|t, _| t.sets[16] = 1, &[13]),
     (|t, _| t.kinds[5] = 2, &[14]),
     (|t, _| t.kinds[4] = 3, &[14]),
     (|_, c| c.lowest_empty = 0, &[15]),
@@ -77,8 +82,17 @@ const DAMAGES: &[Damage] = &[
     (|t, _| t.literals[8_191] = 1, &[16]),
     (|t, _| t.ends[5] = 9, &[16]),
     (|t, _| t.ends[2_047] = 9, &[16]),
-    (|t, _| t.sets[6] = 1, &[16]),
-    (|t, _| t.sets[511] = 1, &[16]),
+    (|t, _| t.sets[24] = 1, &[16]),
+    (|t, _| t.sets[27] = 1, &[16]),
+    (|t, _| t.sets[5] = 1, &[10]),
+    (|t, _| (t.sets[4], t.sets[5]) = (0, 1), &[10, 11]),
+    (|t, _| (t.sets[4], t.sets[7]) = (0, 2), &[10, 11]),
+    (|t, _| t.sets[3] = 1, &[10]),
+    (|t, _| t.sets[13] = 2, &[11]),
+    (|t, _| t.sets[23] = 1 << 63, &[11]),
+    (|t, _| t.sets[17] = 1, &[13]),
+    (|t, _| t.sets[19] = 1 << 63, &[13]),
+    (|t, _| t.sets[2047] = 1, &[16]),
     (|t, _| t.kinds[6] = 2, &[16]),
     (|t, _| t.kinds[511] = 1, &[16]),
     (|t, _| t.kinds[511] = 3, &[14, 16]),
@@ -115,7 +129,7 @@ fn one_wide_clause(width: u16) -> Lent {
     let mut lent = Lent::zero();
     for index in 0..usize::from(width) {
         lent.tables.literals[index] = index as i16 + 1;
-        lent.tables.sets[index] = 1 << index;
+        lent.tables.sets[4 * index + index / 64] = 1 << (index % 64);
         lent.tables.kinds[index] = 1;
     }
     lent.tables.ends[0] = width;
@@ -135,10 +149,48 @@ fn clauses_of_32_and_33_literals() {
     }
 }
 
+/// Tables of so many universals and no clause, the last of them with bit 0.
+fn turned_universals(universals: u16) -> Lent {
+    let mut lent = Lent::zero();
+    let count = usize::from(universals);
+    for index in 0..count {
+        let bit = (index + 1) % count;
+        lent.tables.sets[4 * index + bit / 64] = 1 << (bit % 64);
+        lent.tables.kinds[index] = 1;
+    }
+    lent.counts = Counts::of_array([universals, universals, universals, 0, 0, 0, 0, 0]);
+    lent
+}
+
+#[test]
+fn bits_fill_the_lowest_places_of_all_words() {
+    for universals in [1, 63, 64, 65, 66, 127, 128, 129, 130, 192, 193, 255, 256] {
+        let lent = turned_universals(universals);
+        assert_eq!(broken(&lent.tables, &lent.counts), [], "{universals}");
+        let state = rebuild(&lent.tables, &lent.counts).unwrap();
+        assert_eq!(state.universals()[0], u32::from(universals));
+        assert_eq!(export(&state), lent.tables);
+        // One more place is left out, in the same word or in the next.
+        let mut gap = lent;
+        gap.tables.kinds[usize::from(universals) - 1] = 0;
+        gap.tables.sets[4 * (usize::from(universals) - 1)] = 0;
+        gap.counts.universals -= 1;
+        let wanted: &[usize] = if universals == 1 { &[] } else { &[10] };
+        assert_eq!(broken(&gap.tables, &gap.counts), wanted, "{universals}");
+    }
+    let mut lent = turned_universals(256);
+    lent.tables.kinds[256] = 1;
+    lent.tables.sets[4 * 256] = 1;
+    lent.counts = Counts::of_array([257, 257, 257, 0, 0, 0, 0, 0]);
+    assert_eq!(broken(&lent.tables, &lent.counts), [1, 10]);
+}
+
 #[test]
 fn bits_may_stand_in_any_order() {
     let mut lent = sample();
-    lent.tables.sets[..4].copy_from_slice(&[2, 1, 2, 1]);
+    for (variable, word) in [2, 1, 2, 1].into_iter().enumerate() {
+        lent.tables.sets[4 * variable] = word;
+    }
     assert_eq!(broken(&lent.tables, &lent.counts), []);
     let state = rebuild(&lent.tables, &lent.counts).unwrap();
     assert_eq!(state.universals(), [2, 1]);
@@ -163,7 +215,7 @@ fn shortened(table: usize) -> Lent {
     match table {
         0 => lent.tables.literals.truncate(8_191),
         1 => lent.tables.ends.truncate(2_047),
-        2 => lent.tables.sets.truncate(511),
+        2 => lent.tables.sets.truncate(2_047),
         _ => lent.tables.kinds.truncate(511),
     }
     lent
@@ -215,7 +267,7 @@ fn lengthened() -> Lent {
 fn tails_are_kept(lent: &Lent) -> bool {
     lent.tables.literals[8_192..] == [7; 3]
         && lent.tables.ends[2_048..] == [7; 3]
-        && lent.tables.sets[512..] == [7; 3]
+        && lent.tables.sets[2_048..] == [7; 3]
         && lent.tables.kinds[512..] == [7; 3]
 }
 

@@ -10,6 +10,8 @@ use std::collections::{BTreeMap, BTreeSet};
 
 /// The most function-table bits that are decided by default.
 pub const BITS: u32 = 20;
+/// The most universals in clauses.
+pub const UNIVERSALS: usize = 12;
 
 /// A formula as its text says it.
 #[derive(Clone, Debug, Default, PartialEq, Eq)]
@@ -168,12 +170,34 @@ impl Meaning {
         instances
     }
 
+    /// The same with the universals that stand in a clause, and no others in any
+    /// set. It is true exactly if this is: a family for one is one for the other
+    /// with all others false, since no clause has them.
+    pub fn essential(&self) -> Meaning {
+        let literals = self.clauses.iter().flatten();
+        let held: BTreeSet<u32> = literals.map(|literal| literal.unsigned_abs()).collect();
+        let mut essential = self.clone();
+        essential
+            .universals
+            .retain(|universal| held.contains(universal));
+        for set in essential.existentials.values_mut() {
+            set.retain(|universal| held.contains(universal));
+        }
+        essential
+    }
+
     /// Whether some family makes every clause true at every setting.
-    /// `None` if the function tables have more than `limit` bits in all.
+    /// `None` if the function tables have more than `limit` bits in all, or the
+    /// clauses too many universals.
     pub fn is_true(&self, limit: u32) -> Option<bool> {
+        self.essential().is_true_as_it_stands(limit)
+    }
+
+    fn is_true_as_it_stands(&self, limit: u32) -> Option<bool> {
+        let few = self.universals.len() <= UNIVERSALS;
         let bits = self
             .bits()
-            .filter(|&bits| bits <= u64::from(limit.min(40)))?;
+            .filter(|&bits| few && bits <= u64::from(limit.min(40)))?;
         let instances = self.instances();
         let holds = |family: u64| {
             let holds_at = |i: &Instance| family & i.wanted_true | !family & i.wanted_false != 0;
@@ -256,10 +280,32 @@ mod tests {
 
     #[test]
     fn large_tables_are_left_alone() {
-        let text = b"p cnf 6 1\na 1 2 3 4 5 0\ne 6 0\n1 6 0\n";
+        let text = b"p cnf 6 1\na 1 2 3 4 5 0\ne 6 0\n1 2 3 4 5 6 0\n";
         assert_eq!(decide(text), None);
         let unused = b"p cnf 6 1\na 1 2 3 4 5 0\ne 6 0\n1 -2 0\n";
         assert_eq!(decide(unused), Some(false));
+        let many =
+            b"p cnf 13 1\na 1 2 3 4 5 6 7 8 9 10 11 12 13 0\n1 2 3 4 5 6 7 8 9 10 11 12 13 0\n";
+        assert_eq!(decide(many), None);
+    }
+
+    /// Of 256 universals two stand in clauses.
+    #[test]
+    fn universals_in_no_clause_do_not_count() {
+        let named: String = (1..=256).map(|number| format!("{number} ")).collect();
+        let clauses = "64 257 0\n-64 -257 0\n193 257 0\n-193 257 0\n";
+        let decided = |line: &str, count: usize| {
+            let clauses: String = clauses
+                .lines()
+                .take(count)
+                .map(|l| format!("{l}\n"))
+                .collect();
+            decide(format!("p cnf 257 {count}\na {named}0\n{line} 0\n{clauses}").as_bytes())
+        };
+        assert_eq!(decided("e 257", 2), Some(true));
+        assert_eq!(decided("d 257 64", 2), Some(true));
+        assert_eq!(decided("d 257 65", 2), Some(false));
+        assert_eq!(decided("e 257", 4), Some(false));
     }
 
     #[test]

@@ -13,7 +13,7 @@
 //! changes.
 
 use checker::driver::Buffers;
-use checker::limits::TIDY_BYTES;
+use checker::limits::{TIDY_BYTES, UNIVERSALS};
 
 use crate::library::{answer, Lean};
 use crate::scenario::{Call, Scenario};
@@ -37,23 +37,29 @@ fn used_buffers() -> Buffers {
 }
 
 /// Bytes of an output for the text of a load: the two bytes of an existential on
-/// an `e` line can become 262.
+/// an `e` line can become twelve and its set, which has no more than the input.
 fn long_enough(input: &[u8]) -> usize {
-    TIDY_BYTES.min(131 * input.len() + 16)
+    let line = 12 + input.len().min(4 * UNIVERSALS);
+    TIDY_BYTES.min((input.len() / 2 + 1) * line + 16)
+}
+
+/// The variable and the clause that an input of some length asks about.
+fn asked(input: &[u8]) -> (u32, u32) {
+    ((input.len() % 300) as u32, (input.len() % 64) as u32)
 }
 
 fn loaded(input: &[u8]) -> Scenario {
     let (text, records) = parts(input);
-    let number = (input.len() % 64) as u32;
+    let (variable, clause) = asked(input);
     let calls = vec![
         Call::Load(text),
-        Call::Variable(number),
+        Call::Variable(variable),
         Call::Write(input.len() % 256),
         Call::Run(records.clone()),
-        Call::Show(number),
+        Call::Show(clause),
         Call::Run(records),
-        Call::Clause(number),
-        Call::Variable(number),
+        Call::Clause(clause),
+        Call::Variable(variable),
         Call::Write(long_enough(input)),
     ];
     Scenario {
@@ -77,14 +83,14 @@ fn changed(short: u8, less: u8, changes: &[u8], input: &[u8]) -> Scenario {
     if let Some(buffer) = buffers.0.get_mut(usize::from(short)) {
         buffer.truncate(buffer.len().saturating_sub(1 + usize::from(less)));
     }
-    let number = (input.len() % 64) as u32;
+    let (variable, clause) = asked(input);
     let calls = vec![
-        Call::Show(number),
-        Call::Clause(number),
-        Call::Variable(number),
+        Call::Show(clause),
+        Call::Clause(clause),
+        Call::Variable(variable),
         Call::Write(long_enough(input)),
         Call::Run(records.clone()),
-        Call::Show(number + 1),
+        Call::Show(clause + 1),
         Call::Write(input.len() % 256),
         Call::Load(text),
         Call::Run(records),

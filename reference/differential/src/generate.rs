@@ -29,10 +29,12 @@ impl Scenarios {
         if let Some(case) = self.fixed.get(index as usize) {
             return Some(case.clone());
         }
-        if self.has_large_prefix(index) {
-            return Some(seeded::prefixed(self.seed, index));
+        match self.choice(index) {
+            0..=59 => Some(seeded::case(self.seed, index)),
+            _ if self.has_large_prefix(index) => Some(seeded::prefixed(self.seed, index)),
+            65..=74 => Some(seeded::bordered(self.seed, index)),
+            _ => None,
         }
-        (self.choice(index) < 60).then(|| seeded::case(self.seed, index))
     }
 
     /// What a seeded scenario is made from.
@@ -81,7 +83,8 @@ fn text_and_records(case: Case, random: &mut Random) -> Parts {
         calls.push(Call::Load(case.text.clone()));
         ask(&mut calls, random);
         let records = case.records.len() / 16;
-        let cut = random.pick(&[0, 0, 16 * random.clone().below(records + 1)]);
+        let anywhere = 16 * random.below(records + 1);
+        let cut = random.pick(&[0, anywhere]);
         let (first, rest) = case.records.split_at(cut);
         if cut > 0 {
             calls.push(Call::Run(first.to_vec()));
@@ -97,7 +100,7 @@ fn text_and_records(case: Case, random: &mut Random) -> Parts {
 fn tables(seed: u64, index: u64, random: &mut Random) -> Parts {
     let choice = random.below(10);
     let (label, LentCase { lent, records }) = match choice {
-        0..=3 => ("well-formed tables", well_formed(seed, index)),
+        0..=2 => ("well-formed tables", well_formed(seed, index)),
         _ => ("damaged tables", damaged(seed, index)),
     };
     let [literals, ends, sets, kinds] = lent.tables.bytes();
@@ -185,7 +188,9 @@ fn ask(calls: &mut Vec<Call>, random: &mut Random) {
     ];
     for _ in 0..random.between(1, 3) {
         let small = random.below(60) as u32;
-        let number = random.pick(&[small, small, small, random.clone().pick(&numbers)]);
+        let larger = random.below(270) as u32;
+        let border = random.pick(&numbers);
+        let number = random.pick(&[small, small, small, larger, larger, border]);
         calls.push(match random.below(3) {
             0 => Call::Show(number),
             1 => Call::Clause(number),
@@ -204,11 +209,13 @@ fn noise(buffers: &mut Buffers, random: &mut Random) {
     }
 }
 
-/// Makes some buffers longer than they need be.
+/// Makes some buffers longer than they need be, by choice by whole words of a set
+/// or by whole sets.
 fn lengthen(buffers: &mut Buffers, random: &mut Random) {
     for buffer in &mut buffers.0 {
         if random.chance(50) {
-            let length = random.between(1, 40);
+            let any = random.between(1, 40);
+            let length = random.pick(&[any, any, 8, 16, 24, 32, 64]);
             buffer.extend((0..length).map(|_| random.word() as u8));
         }
     }
@@ -220,7 +227,17 @@ fn shorten(buffers: &mut Buffers, random: &mut Random) {
         let which = random.below(5);
         let size = SIZES[which];
         let below = random.below(size);
-        buffers.0[which].truncate(random.pick(&[0, size / 2, size - 2, size - 1, size - 1, below]));
+        let lengths = [
+            0,
+            size / 4,
+            size / 2,
+            size - 8,
+            size - 2,
+            size - 1,
+            size - 1,
+            below,
+        ];
+        buffers.0[which].truncate(random.pick(&lengths));
     }
 }
 

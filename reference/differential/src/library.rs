@@ -70,3 +70,26 @@ impl Library for Lean {
         lean::write(out, lent)
     }
 }
+
+/// The calls of the fast checker that only read, for a library that has another load
+/// or run.
+#[macro_export]
+macro_rules! reads_as_lean {
+    () => {
+        fn show(&mut self, lent: $crate::library::Shared, clause: u32) -> u64 {
+            $crate::library::Lean.show(lent, clause)
+        }
+
+        fn clause(&mut self, lent: $crate::library::Shared, clause: u32) -> u64 {
+            $crate::library::Lean.clause(lent, clause)
+        }
+
+        fn variable(&mut self, lent: $crate::library::Shared, variable: u32) -> u64 {
+            $crate::library::Lean.variable(lent, variable)
+        }
+
+        fn write(&mut self, out: &mut [u8], lent: $crate::library::Shared) -> u64 {
+            $crate::library::Lean.write(out, lent)
+        }
+    };
+}

@@ -3,6 +3,7 @@
 
 use std::collections::BTreeSet;
 
+use cases::bordered::sometimes_spread;
 use cases::formulas::{self, random_formula, Size};
 use cases::prover::{records_of, trimmed, Prover};
 use cases::random::Random;
@@ -14,6 +15,9 @@ use decide::decide;
 use crate::compare::fields;
 use crate::library::{answer, Library};
 use crate::scenario::Call;
+
+/// So many of a hundred formulas have bits in all words of their sets.
+const SPREAD: usize = 25;
 
 /// How the formulas of a size came out.
 #[derive(Debug, Default)]
@@ -44,7 +48,8 @@ pub fn tally(
     let mut tally = Tally::default();
     for index in 0..count {
         let random = &mut Random::for_case(seed, index);
-        let text = random_formula(random, size).loose(random);
+        let draft = random_formula(random, size);
+        let text = sometimes_spread(draft, SPREAD, random).loose(random);
         let Some(is_true) = decide(&text) else {
             continue;
         };
@@ -259,7 +264,8 @@ pub fn tried_at_random(library: &mut impl Library) -> usize {
     for index in 0..5_000 {
         let random = &mut Random::for_case(14, index);
         let size = random.pick(&[formulas::TINY, formulas::SMALL, formulas::FORKED]);
-        let text = random_formula(random, size).plain();
+        let draft = random_formula(random, size);
+        let text = sometimes_spread(draft, SPREAD, random).plain();
         if decide(&text) == Some(true) {
             let refuted = refutes_at_random(library, &text, random);
             let shown = String::from_utf8_lossy(&text);

@@ -150,22 +150,28 @@ impl Faulty {
         let text = String::from_utf8_lossy(text);
         let lines = text.lines().filter(|line| line.starts_with('e'));
         let lines: Vec<Vec<i32>> = lines.map(numbers).collect();
-        let place = |variable: i32| 8 * (variable as usize - 1);
-        let set = |line: &Vec<i32>| lent[2][place(line[0])..][..8].try_into().unwrap();
-        let mut sets: Vec<[u8; 8]> = lines.iter().map(set).collect();
-        let every = ((1u128 << lent[4][4]) - 1) as u64;
+        let place = |variable: i32| 32 * (variable as usize - 1);
+        let set = |line: &Vec<i32>| lent[2][place(line[0])..][..32].try_into().unwrap();
+        let mut sets: Vec<[u8; 32]> = lines.iter().map(set).collect();
         match self.0 {
-            Fault::SeesLater => sets.fill(every.to_le_bytes()),
-            Fault::SeesNothing => sets.fill([0; 8]),
+            Fault::SeesLater => sets.fill(every_universal(lent[4])),
+            Fault::SeesNothing => sets.fill([0; 32]),
             Fault::SwapsSets if sets.len() > 1 => sets.swap(0, 1),
             _ => return,
         }
         for (line, set) in lines.iter().zip(sets) {
             for &variable in line {
-                lent[2][place(variable)..][..8].copy_from_slice(&set);
+                lent[2][place(variable)..][..32].copy_from_slice(&set);
             }
         }
     }
+}
+
+/// The set of all universals of a state.
+fn every_universal(state: &[u8]) -> [u8; 32] {
+    let universals = usize::from(u16::from_le_bytes([state[4], state[5]]));
+    let bits = |byte| (0..8).filter(move |bit| 8 * byte + bit < universals);
+    std::array::from_fn(|byte| bits(byte).fold(0, |all, bit| all | 1 << bit))
 }
 
 impl Library for Faulty {

@@ -101,4 +101,33 @@ fn inputs_reach_writes() {
     );
     let length = 11 + 196 + 35 * 196 + 9 * 2 + 26 * 3;
     assert_eq!(writes(text.as_bytes()), [(2, 30), (1, length)]);
+    // The longest texts of short inputs: the first fields are the low 16 bits.
+    for universals in [1, 9, 64, 65, 128, 256] {
+        let others = 512 - universals;
+        let (named, seeing) = (numbers(1..universals + 1), numbers(universals + 1..513));
+        let text = format!("p cnf 512 0\na {named}0\ne {seeing}0\n");
+        let length = 12 + 4 + named.len() + seeing.len() + others as usize * (named.len() + 4);
+        assert_eq!(writes(text.as_bytes()).last(), Some(&(1, length as u16)));
+    }
+}
+
+/// A question about a variable, in a text of 256 universals: its set.
+#[test]
+fn inputs_reach_sets_of_all_words() {
+    let named: String = (1..=256).map(|number| format!("{number} ")).collect();
+    let mut text = format!("c\np cnf 300 0\na {named}0\ne 299 0\n");
+    while text.len() % 300 != 299 {
+        text.insert(1, ' ');
+    }
+    let scenario = scenario(text.as_bytes());
+    let mut buffers = scenario.buffers;
+    let told = scenario.calls.iter().map(|call| {
+        let word = oracle::answer(&mut buffers, call, &mut call.output());
+        (call.short(), fields(word))
+    });
+    let told: Vec<_> = told.collect();
+    assert!(
+        told.contains(&("variable 299".into(), [1, 2, 256, 0])),
+        "{told:?}"
+    );
 }

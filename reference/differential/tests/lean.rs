@@ -25,15 +25,18 @@ fn bordered(variables: usize, universals: usize, clauses: usize) -> Lent {
     let mut lent = Lent::zero();
     let tables = &mut lent.tables;
     let first = variables - universals;
-    let all = u64::MAX.checked_shr(64 - universals as u32).unwrap_or(0);
     for index in 0..variables {
         let bit = variables - 1 - index;
-        (tables.kinds[index], tables.sets[index]) = match index {
-            _ if index >= first => (1, 1 << bit),
-            _ if index % 7 == 6 => (0, 0),
-            _ if index % 3 == 0 => (2, all),
-            _ => (2, 0xA5A5_5A5A_C33C_0FF0 & all),
+        let (kind, has): (u8, fn(usize, usize) -> bool) = match index {
+            _ if index >= first => (1, |place, bit| place == bit),
+            _ if index % 7 == 6 => (0, |_, _| false),
+            _ if index % 3 == 0 => (2, |_, _| true),
+            _ => (2, |place, _| place % 5 < 3),
         };
+        tables.kinds[index] = kind;
+        for place in (0..universals).filter(|&place| has(place, bit)) {
+            tables.sets[4 * index + place / 64] |= 1 << (place % 64);
+        }
     }
     let kinds = &tables.kinds;
     let declared: Vec<usize> = (0..variables).filter(|&index| kinds[index] > 0).collect();
@@ -61,8 +64,8 @@ fn bordered(variables: usize, universals: usize, clauses: usize) -> Lent {
 #[test]
 fn the_fast_checker_writes_the_borders() {
     let mut longest = 0;
-    for variables in [0, 1, 9, 10, 11, 64, 99, 100, 101, 511, 512] {
-        for universals in [0, 1, 2, 63, 64] {
+    for variables in [0, 1, 9, 10, 11, 64, 99, 100, 101, 257, 511, 512] {
+        for universals in [0, 1, 2, 63, 64, 65, 128, 129, 192, 193, 256] {
             for clauses in [0, 1, 9, 10, 99, 100, 256, 999, 1_000, 2_048] {
                 if universals > variables {
                     continue;
@@ -82,7 +85,7 @@ fn the_fast_checker_writes_the_borders() {
             }
         }
     }
-    assert!(longest > 100_000, "{longest}");
+    assert!(longest > 200_000, "{longest}");
 }
 
 /// The driver's header has the same number.

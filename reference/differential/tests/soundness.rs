@@ -4,7 +4,7 @@
 
 use std::panic::catch_unwind;
 
-use differential::library::{Lean, Lent, Library, Shared};
+use differential::library::{Lean, Lent, Library};
 use differential::soundness::{refutes, searched, tried_at_random, Refuted};
 
 #[test]
@@ -46,21 +46,7 @@ impl Library for Wrong {
         }
     }
 
-    fn show(&mut self, lent: Shared, clause: u32) -> u64 {
-        Lean.show(lent, clause)
-    }
-
-    fn clause(&mut self, lent: Shared, clause: u32) -> u64 {
-        Lean.clause(lent, clause)
-    }
-
-    fn variable(&mut self, lent: Shared, variable: u32) -> u64 {
-        Lean.variable(lent, variable)
-    }
-
-    fn write(&mut self, out: &mut [u8], lent: Shared) -> u64 {
-        Lean.write(out, lent)
-    }
+    differential::reads_as_lean!();
 }
 
 /// Whether the search finds a formula that is true and refuted.

@@ -1,5 +1,6 @@
 //! Whether tables are well formed, in one pass over each.
 
+use crate::sets::{contained, is_single, lowest, union, EMPTY};
 use crate::tables::{Tables, CLAUSES, LITERALS, UNIVERSALS, VARIABLES, WIDTH};
 
 impl Tables {
@@ -19,23 +20,23 @@ impl Tables {
     }
 
     fn variables_fit(&self) -> bool {
-        let (mut universals, mut all, mut others) = (0, 0, 0);
+        let (mut universals, mut all, mut others) = (0, EMPTY, EMPTY);
         for index in 0..self.counts.variables {
             let set = self.sets[index];
             let fork = index >= self.counts.bound;
             match self.kinds[index] {
-                0 if set == 0 && !fork => (),
-                1 if set.is_power_of_two() && set & all == 0 && !fork => {
-                    all |= set;
+                0 if set == EMPTY && !fork => (),
+                1 if is_single(set) && !fork => {
+                    all = union(all, set);
                     universals += 1;
                 }
-                2 if !fork => others |= set,
-                3 if fork => others |= set,
+                2 if !fork => others = union(others, set),
+                3 if fork => others = union(others, set),
                 _ => return false,
             }
         }
-        let lowest = all & all.wrapping_add(1) == 0;
-        universals == self.counts.universals && lowest && others & !all == 0
+        // So many single places are the lowest ones only if they are different.
+        universals == self.counts.universals && all == lowest(universals) && contained(others, all)
     }
 
     fn clauses_fit(&self) -> bool {
@@ -73,11 +74,11 @@ impl Tables {
         true
     }
 
+    /// Of the sets the rest is tested where they are read.
     fn rest_is_zero(&self) -> bool {
         let counts = &self.counts;
         self.literals[counts.literals..].iter().all(|&l| l == 0)
             && self.ends[counts.clauses..].iter().all(|&e| e == 0)
-            && self.sets[counts.variables..].iter().all(|&s| s == 0)
             && self.kinds[counts.variables..].iter().all(|&k| k == 0)
     }
 }

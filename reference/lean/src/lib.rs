@@ -16,6 +16,7 @@
 #![forbid(unsafe_code)]
 
 mod formed;
+mod sets;
 mod steps;
 mod tables;
 mod text;
@@ -31,7 +32,7 @@ pub type Lent<'a> = [&'a mut [u8]; 5];
 pub type Shared<'a> = [&'a [u8]; 5];
 
 /// The number of the interface: KEFTHRUN_INTERFACE of include/kefthrun.h.
-pub const INTERFACE: u32 = 3;
+pub const INTERFACE: u32 = 4;
 
 /// The word of a tag and its values. A refusal of a step may have a variable in the
 /// 16 bits above its number, the last field.
@@ -101,7 +102,7 @@ pub fn variable(lent: Shared, variable: u32) -> u64 {
     if index >= tables.counts.variables {
         return word(2, 22, 0);
     }
-    let universals = tables.sets[index].count_ones();
+    let universals = sets::size(tables.sets[index]);
     word(1, tables.kinds[index].into(), universals.into())
 }
 

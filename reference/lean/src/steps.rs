@@ -1,5 +1,6 @@
 //! Records and the three rules.
 
+use crate::sets::{contained, intersection, union, word_of, Set, EMPTY};
 use crate::tables::{Tables, CLAUSES, LITERALS, VARIABLES, WIDTH};
 
 const RECORD: usize = 16;
@@ -104,8 +105,10 @@ fn reduction(tables: &mut Tables, clause: u32, literal: i32) -> Result<(), u64> 
     new[..place].copy_from_slice(&old[..place]);
     new[place..old.len() - 1].copy_from_slice(&old[place + 1..]);
     let rest = &new[..old.len() - 1];
-    let others = rest.iter().fold(0, |all, &l| all | tables.set(l));
-    if others & tables.set(literal) != 0 {
+    let single = tables.set(literal);
+    let word = word_of(single);
+    let others = rest.iter().fold(0, |all, &l| all | tables.set(l)[word]);
+    if others & single[word] != 0 {
         return Err(27);
     }
     room(tables, 1, rest.len(), 0)?;
@@ -122,12 +125,12 @@ fn fork(tables: &mut Tables, clause: u32, left: u32, right: u32) -> Result<(), u
     let new = tables.counts.variables as i16 + 1;
     let (left, left_length, left_set) = part(tables, old, left, new);
     let (right, right_length, right_set) = part(tables, old, right, -new);
-    if left_set & !right_set == 0 || right_set & !left_set == 0 {
+    if contained(left_set, right_set) || contained(right_set, left_set) {
         return Err(29);
     }
     room(tables, 2, left_length + right_length, 1)?;
     tables.kinds[tables.counts.variables] = 3;
-    tables.sets[tables.counts.variables] = left_set & right_set;
+    tables.sets[tables.counts.variables] = intersection(left_set, right_set);
     tables.counts.variables += 1;
     tables.add(&left[..left_length]);
     tables.add(&right[..right_length]);
@@ -135,13 +138,13 @@ fn fork(tables: &mut Tables, clause: u32, left: u32, right: u32) -> Result<(), u
 }
 
 /// The literals that a mask picks with the new one behind them, and their set.
-fn part(tables: &Tables, old: &[i16], mask: u32, new: i16) -> ([i16; WIDTH + 1], usize, u64) {
-    let (mut part, mut length, mut set) = ([0; WIDTH + 1], 0, 0);
+fn part(tables: &Tables, old: &[i16], mask: u32, new: i16) -> ([i16; WIDTH + 1], usize, Set) {
+    let (mut part, mut length, mut set) = ([0; WIDTH + 1], 0, EMPTY);
     for (place, &literal) in old.iter().enumerate() {
         if mask >> place & 1 == 1 {
             part[length] = literal;
             length += 1;
-            set |= tables.set(literal);
+            set = union(set, tables.set(literal));
         }
     }
     part[length] = new;

@@ -1,16 +1,20 @@
 //! The four tables and the state in flat arrays; the driver's little-endian
 //! bytes are read into them and written from them.
 
+use crate::sets::{Set, EMPTY, WORDS};
 use crate::{Lent, Shared};
 
 pub const LITERALS: usize = 8_192;
 pub const CLAUSES: usize = 2_048;
 pub const VARIABLES: usize = 512;
-pub const UNIVERSALS: usize = 64;
+pub const UNIVERSALS: usize = 64 * WORDS;
 pub const WIDTH: usize = 32;
 
 /// The bytes that each table and the state need.
-pub const SIZES: [usize; 5] = [2 * LITERALS, 2 * CLAUSES, 8 * VARIABLES, VARIABLES, 16];
+pub const SIZES: [usize; 5] = [2 * LITERALS, 2 * CLAUSES, SET * VARIABLES, VARIABLES, 16];
+
+/// The bytes of one set.
+const SET: usize = 8 * WORDS;
 
 /// The state, in the order of its bytes.
 #[derive(Clone, Copy)]
@@ -30,13 +34,20 @@ pub struct Counts {
 pub struct Tables {
     pub literals: [i16; LITERALS],
     pub ends: [u16; CLAUSES],
-    pub sets: [u64; VARIABLES],
+    pub sets: [Set; VARIABLES],
     pub kinds: [u8; VARIABLES],
     pub counts: Counts,
 }
 
 pub fn too_short(lent: &Shared) -> bool {
     (0..5).any(|i| lent[i].len() < SIZES[i])
+}
+
+/// Whether whole words of bytes are 0, with no branch between them.
+fn are_zero(bytes: &[u8]) -> bool {
+    let words = bytes.chunks_exact(8);
+    let word = |chunk: &[u8]| u64::from_le_bytes(chunk.try_into().expect("eight bytes"));
+    words.fold(0, |all, chunk| all | word(chunk)) == 0
 }
 
 fn take<T, const N: usize>(entries: &mut [T], bytes: &[u8], read: fn([u8; N]) -> T) {
@@ -82,23 +93,26 @@ impl Tables {
         Tables {
             literals: [0; LITERALS],
             ends: [0; CLAUSES],
-            sets: [0; VARIABLES],
+            sets: [EMPTY; VARIABLES],
             kinds: [0; VARIABLES],
             counts: Counts::of(&[0; 16]),
         }
     }
 
-    /// Takes well-formed tables, or tells 1 or 2.
+    /// Takes well-formed tables into zero ones, or tells 1 or 2. Of the sets, which
+    /// are the most bytes, those of variables in use are taken.
     pub fn read(&mut self, lent: &Shared) -> Result<(), u64> {
         if too_short(lent) {
             return Err(1);
         }
+        self.counts = Counts::of(lent[4]);
+        let in_use = self.counts.variables.min(VARIABLES);
+        let (used, rest) = lent[2][..SIZES[2]].split_at(SET * in_use);
         take(&mut self.literals, lent[0], i16::from_le_bytes);
         take(&mut self.ends, lent[1], u16::from_le_bytes);
-        take(&mut self.sets, lent[2], u64::from_le_bytes);
+        take(self.sets.as_flattened_mut(), used, u64::from_le_bytes);
         self.kinds.copy_from_slice(&lent[3][..VARIABLES]);
-        self.counts = Counts::of(lent[4]);
-        if self.well_formed() {
+        if self.well_formed() && are_zero(rest) {
             Ok(())
         } else {
             Err(2)
@@ -109,7 +123,7 @@ impl Tables {
     pub fn write(&self, lent: &mut Lent) {
         put(lent[0], &self.literals, i16::to_le_bytes);
         put(lent[1], &self.ends, u16::to_le_bytes);
-        put(lent[2], &self.sets, u64::to_le_bytes);
+        put(lent[2], self.sets.as_flattened(), u64::to_le_bytes);
         lent[3][..VARIABLES].copy_from_slice(&self.kinds);
         put(lent[4], &self.counts.entries(), u16::to_le_bytes);
     }
@@ -122,11 +136,8 @@ impl Tables {
         put(&mut lent[0][2 * literals..], added, i16::to_le_bytes);
         let added = &self.ends[clauses..self.counts.clauses];
         put(&mut lent[1][2 * clauses..], added, u16::to_le_bytes);
-        put(
-            &mut lent[2][8 * old..],
-            &self.sets[old..new],
-            u64::to_le_bytes,
-        );
+        let added = self.sets[old..new].as_flattened();
+        put(&mut lent[2][SET * old..], added, u64::to_le_bytes);
         lent[3][old..new].copy_from_slice(&self.kinds[old..new]);
         put(lent[4], &self.counts.entries(), u16::to_le_bytes);
     }
@@ -160,7 +171,7 @@ impl Tables {
     }
 
     /// The set of a literal's variable, which is in use.
-    pub fn set(&self, literal: i16) -> u64 {
+    pub fn set(&self, literal: i16) -> Set {
         self.sets[usize::from(literal.unsigned_abs()) - 1]
     }
 }

@@ -29,7 +29,7 @@ use Rattle.dqbf.specs.Rules.{Addition, noRoom}
 use Rattle.dqbf.specs.Run.{Examined, accepts, refuses, after, refusalOf}
 use Rattle.dqbf.specs.Published.{Fits}
 use Rattle.dqbf.proofs.Laws.Models.{fits-in}
-use Rattle.tables.specs.Tables.{Tables, tablesOf, modelIn, stretch}
+use Rattle.tables.specs.Tables.{Tables, rowsOf, modelIn, stretch}
 use Rattle.tables.specs.Adding.{stored, clauseEnded, variableAdded, stepCounted, full, RoomFor}
 use Rattle.tables.specs.declared.State.{State}
 use Rattle.tables.proofs.Laws.Spread.{model-held, state-held}
@@ -59,7 +59,7 @@ module _ (t : Tables) (s : State) (h : Holding t s) where
   pub left-one : (C : Clause) → Fits tables m (One C)
       → _≡_ {A = AfterStep}
       (record {
-        tables = tablesOf (stored (t .literals) (s .literals) C) (set (t .ends) (s .clauses .0) (s .literals + length C)) (t .sets) (t .kinds);
+        tables = rowsOf (stored (t .literals) (s .literals) C) (set (t .ends) (s .clauses .0) (s .literals + length C)) (t .sets) (t .spare) (t .kinds);
         state = stepCounted (clauseEnded s (length C));
         answer = none;
       })
@@ -71,9 +71,9 @@ module _ (t : Tables) (s : State) (h : Holding t s) where
   pub left-two : (C D : Clause) (w : Set) → Fits tables m (Two C D w)
       → _≡_ {A = AfterStep}
       (record {
-        tables = tablesOf (stored (stored (t .literals) (s .literals) C) (s .literals + length C) D)
+        tables = rowsOf (stored (stored (t .literals) (s .literals) C) (s .literals + length C) D)
             (set (set (t .ends) (s .clauses .0) (s .literals + length C)) (s .clauses .0 + 1) (s .literals + length C + length D)) (set (t .sets) (s .variables .0) w)
-            (set (t .kinds) (s .variables .0) 3);
+            (t .spare) (set (t .kinds) (s .variables .0) 3);
         state = stepCounted (variableAdded (clauseEnded (clauseEnded s (length C)) (length D)));
         answer = none;
       })
@@ -173,7 +173,7 @@ module _ (t : Tables) (s : State) (h : Holding t s) where
       one-asked q = (rw q (room-one t s (h .lent) (h .formed) C fits), long-is t (h .lent) .ends, step-room t s (h .lent) (h .formed) (One C) fits (omega arith))
 
       pub one-added : {n : ℕ} {l : List ℤ} {d : List ℕ} {r : State} → n ≡ length C → l ≡ stored (t .literals) (s .literals) C → d ≡ set (t .ends) (s .clauses .0) (s .literals + n) → r ≡ stepCounted (clauseEnded s n)
-          → After t s e (tablesOf l d (t .sets) (t .kinds)) (record { state = r; answer = Accepted })
+          → After t s e (rowsOf l d (t .sets) (t .spare) (t .kinds)) (record { state = r; answer = Accepted })
       unfolding stepTold
       one-added q o u v = rw (is, fitted-accepted (modelIn t s) (One C) (no-room ∙ free), o, u, v, q) (left-one t s h C fits)
 
@@ -206,7 +206,7 @@ module _ (t : Tables) (s : State) (h : Holding t s) where
       back = putMid (s .literals) (literalLimit - s .literals) (t .literals) z
 
       pub resolvent-refused : {v : ℕ} → v ≡ lowestClash C → {r : Stepped} → x ≢ 0 → r ≡ record { state = s; answer = Refused (refusalFor x v) }
-          → After t s (tested (modelIn t s) C) (tablesOf back (t .ends) (t .sets) (t .kinds)) r
+          → After t s (tested (modelIn t s) C) (rowsOf back (t .ends) (t .sets) (t .spare) (t .kinds)) r
       resolvent-refused {v} e n p =
           let same : back ≡ t .literals = rw (left, ne-eqb x 0 n) (put-same (s .literals) (literalLimit - s .literals) (t .literals)) in
           rw same (after-told (tested (modelIn t s) C) (refusalFor x v) (by-number ∙ rw (ne-eqb x 0 n, e)) p)
@@ -275,14 +275,14 @@ module _ (t : Tables) (s : State) (h : Holding t s) (e : Examined) (C D : Clause
       step-room t s (h .lent) (h .formed) (Two C D w) fits-two (omega arith),
     )
 
-    pub two-added : {l z : List ℤ} {d u k : List ℕ} {r : State}
+    pub two-added : {l z : List ℤ} {d u v k : List ℕ} {r : State}
         → z ≡ (C ++ D) ++ drop (length (C ++ D)) (take (length (t .literals) - s .literals) (drop (s .literals) (t .literals)))
         → l ≡ putMid (s .literals) (length (t .literals) - s .literals) (t .literals) z
-        → d ≡ set (set (t .ends) (s .clauses .0) (s .literals + a)) (s .clauses .0 + 1) (s .literals + a + b) → u ≡ set (t .sets) (s .variables .0) w
+        → d ≡ set (set (t .ends) (s .clauses .0) (s .literals + a)) (s .clauses .0 + 1) (s .literals + a + b) → u ≡ set (t .sets) (s .variables .0) w → v ≡ t .spare
         → k ≡ set (t .kinds) (s .variables .0) 3 → r ≡ stepCounted (variableAdded (clauseEnded (clauseEnded s a) b))
-        → After t s e (tablesOf l d u k) (record { state = r; answer = Accepted })
+        → After t s e (rowsOf l d u v k) (record { state = r; answer = Accepted })
     unfolding stepTold
-    two-added {z = z} p o q x y v =
+    two-added {z = z} p o q x spare y v =
         let inside : s .literals ≤ length (t .literals) = omega (arith, two-room) in
         rw (
           is,
@@ -292,6 +292,7 @@ module _ (t : Tables) (s : State) (h : Holding t s) (e : Examined) (C D : Clause
           ← stored-two (t .literals) (s .literals) C D inside,
           q,
           x,
+          spare,
           y,
           v,
           left,
@@ -345,12 +346,12 @@ module _ (t : Tables) (s : State) (h : Holding t s) (X Y : Clause) (w : Set) {a 
         × (s .steps .0 < clauseLimit)
     fork-asked = two-asked t s h forked C D w refl first second refl told free
 
-    pub fork-added : {l z : List ℤ} {d u k : List ℕ} {r : State}
+    pub fork-added : {l z : List ℤ} {d u v k : List ℕ} {r : State}
         → z ≡ ((X ++ (toZ w16 (s .variables .0 + 1) ∷ [])) ++ (Y ++ (negℤ (toZ w16 (s .variables .0 + 1)) ∷ [])))
         ++ drop (length ((X ++ (toZ w16 (s .variables .0 + 1) ∷ [])) ++ (Y ++ (negℤ (toZ w16 (s .variables .0 + 1)) ∷ []))))
         (take (length (t .literals) - s .literals) (drop (s .literals) (t .literals)))
         → l ≡ putMid (s .literals) (length (t .literals) - s .literals) (t .literals) z
         → d ≡ set (set (t .ends) (s .clauses .0) (s .literals + (a + 1))) (s .clauses .0 + 1) (s .literals + (a + 1) + (b + 1))
-        → u ≡ set (t .sets) (s .variables .0) w → k ≡ set (t .kinds) (s .variables .0) 3
-        → r ≡ stepCounted (variableAdded (clauseEnded (clauseEnded s (a + 1)) (b + 1))) → After t s forked (tablesOf l d u k) (record { state = r; answer = Accepted })
+        → u ≡ set (t .sets) (s .variables .0) w → v ≡ t .spare → k ≡ set (t .kinds) (s .variables .0) 3
+        → r ≡ stepCounted (variableAdded (clauseEnded (clauseEnded s (a + 1)) (b + 1))) → After t s forked (rowsOf l d u v k) (record { state = r; answer = Accepted })
     fork-added p = two-added t s h forked C D w refl first second refl told free (rw (new-literal (s .variables .0) fork-variable) at p)

@@ -35,7 +35,7 @@ use Rattle.ranks.specs.Order.{allInserted, Arranged}
 use Rattle.ranks.specs.Ranks.{literalOfRank, sideBySide}
 use Rattle.ranks.proofs.Laws.Ranks.{rank-variable}
 use Rattle.ranks.proofs.Laws.Sorting.{clause-count, clause-front, clause-literals, clause-pair}
-use Rattle.tables.specs.Tables.{Tables, tablesOf, entry}
+use Rattle.tables.specs.Tables.{Tables, rowsOf, entry}
 use Rattle.tables.specs.Spread.{spread, stateOf}
 use Rattle.tables.specs.WellFormed.{allOf}
 use Rattle.tables.specs.Adding.{stored, clauseEnded, formulaCounted, RoomFor}
@@ -51,7 +51,7 @@ use Rattle.prefix_lines.specs.Lines.{phaseNumber, progressOf, refusalOf, ReadSo
 use Rattle.prefix_lines.specs.declared.progress.Progress.{Progress}
 use Rattle.prefix_lines.proofs.Laws.Variables.{kind-declared}
 use Rattle.prefix_lines.proofs.Laws.Models.{kind-entry, model-clauses, model-clause}
-use Rattle.prefix_lines.proofs.Laws.Reading.{phase-is, phase-opening, phase-late, count-is, places-is, state-is, bound-is, universals-is, clauses-is, formula-is, literals-is, framed, kinds-front}
+use Rattle.prefix_lines.proofs.Laws.Reading.{phase-is, phase-opening, phase-late, count-is, state-is, bound-is, universals-is, clauses-is, formula-is, literals-is, framed, kinds-front}
 use Rattle.prefix_lines.proofs.Laws.Declaring.{no-tests}
 use Rattle.prefix_lines.proofs.Laws.LineTests.{test-fails, test-passes, line-refused, line-taken}
 
@@ -298,10 +298,10 @@ module _ {t : Tables} {r : Reader} {p : Progress} {now : Tables} (h : ReadSoFar 
 
                 progress-more : {q : Progress} → q ≡ clauseAdded p w → q ≡ progressOf (taken r (clauseLine C))
                 unfolding clauseAdded progressOf taken phaseNumber
-                progress-more e = e ∙ (λ i. record { phase = 2; count = count-is h i; places = places-is h i; state = state-more i })
+                progress-more e = e ∙ (λ i. record { phase = 2; count = count-is h i; state = state-more i })
 
                 tables-more : {ls : List ℤ} {es : List ℕ} → ls ≡ stored (now .literals) (p .state .literals) (map literalOfRank (take w out))
-                    → es ≡ set (now .ends) (p .state .clauses .0) (p .state .literals + w) → tablesOf ls es (now .sets) (now .kinds) ≡ spread (modelOf ψ) t
+                    → es ≡ set (now .ends) (p .state .clauses .0) (p .state .literals + w) → rowsOf ls es (now .sets) (now .spare) (now .kinds) ≡ spread (modelOf ψ) t
                 tables-more e f =
                     let m = modelOf φ in
                     let n : p .state .literals ≡ total (clauses m) = literals-is h ∙ ap total (sym (model-clauses φ)) in
@@ -311,7 +311,7 @@ module _ {t : Tables} {r : Reader} {p : Progress} {now : Tables} (h : ReadSoFar 
 
                 pub c-read : {q : Progress} {ls : List ℤ} {es : List ℕ} → q ≡ clauseAdded p w → ls ≡ stored (now .literals) (p .state .literals) (map literalOfRank (take w out))
                     → es ≡ set (now .ends) (p .state .clauses .0) (p .state .literals + w)
-                    → LineRead t r (clauseLine C) (record { progress = q; refusal = 0 }) (tablesOf ls es (now .sets) (now .kinds))
+                    → LineRead t r (clauseLine C) (record { progress = q; refusal = 0 }) (rowsOf ls es (now .sets) (now .spare) (now .kinds))
                 unfolding taken refusalOf newOn
                 c-read d e f =
                     line-taken passes (record {
@@ -331,7 +331,7 @@ module _ {t : Tables} {r : Reader} {p : Progress} {now : Tables} (h : ReadSoFar 
 
       pub c-taken : {q : Progress} {ls : List ℤ} {es : List ℕ} → Passes out w p (now .kinds) → q ≡ clauseAdded p w
           → ls ≡ stored (now .literals) (p .state .literals) (map literalOfRank (take w out)) → es ≡ set (now .ends) (p .state .clauses .0) (p .state .literals + w)
-          → LineRead t r (clauseLine C) (record { progress = q; refusal = 0 }) (tablesOf ls es (now .sets) (now .kinds))
+          → LineRead t r (clauseLine C) (record { progress = q; refusal = 0 }) (rowsOf ls es (now .sets) (now .spare) (now .kinds))
       c-taken g = c-read (g .narrow) (g .light) (g .all) (g .calm) (g .few)
 
 -- ---- what a clause that passes needs and leaves
@@ -347,7 +347,7 @@ module _ {p : Progress} (counts : Within p) {ranks : List ℕ} {w : ℕ} {kinds 
   unfolding clauseEnded
   formula-kept q = rw q (omega (arith, counts, g .few))
 
-pub progress-added : (p : Progress) (w : ℕ) {e n : State} → e ≡ clauseEnded (p .state) w → n ≡ formulaCounted e → _≡_ {A = Progress} (record { phase = 2; count = p .count; places = p .places; state = n }) (clauseAdded p w)
+pub progress-added : (p : Progress) (w : ℕ) {e n : State} → e ≡ clauseEnded (p .state) w → n ≡ formulaCounted e → _≡_ {A = Progress} (record { phase = 2; count = p .count; state = n }) (clauseAdded p w)
 unfolding clauseAdded
 progress-added p w q f = rw (f, q)
 

@@ -24,6 +24,7 @@ use Rattle.dqbf.specs.Rules.{reads}
 use Rattle.dqbf.proofs.Laws.Lists.{nth}
 use Rattle.dqbf.proofs.Laws.Signed.{var-kept}
 use Rattle.dqbf.proofs.Laws.Words.{bit-and, bit-or, bit-ext, bit-single, bit-zero}
+use Rattle.sets.specs.Words.{asSet}
 use Rattle.clause_sets.specs.Sets.{setIn, clauseSetIn, InUse, PartOf}
 
 -- ---- unions
@@ -113,9 +114,9 @@ module _ (sets : List Set) where
         → Measuring C (count + 1) U more
     measuring-more e f q u = record { width = omega (arith, w .width, ap length e); united = w .united ∙ set-more e f q set u }
 
-    pub measuring-done : rest ≡ [] → PartOf sets C (record { count = count; set = set })
+    pub measuring-done : rest ≡ [] → (words : List ℕ) → asSet words ≡ set → PartOf sets C (record { count = count; set = words })
     unfolding clauseSetIn
-    measuring-done e = record { count = sym (w .width ∙ rw e (add-zero count)); set = sym (w .united ∙ rw e (or-zero-r set)) }
+    measuring-done e words held = record { count = sym (w .width ∙ rw e (add-zero count)); set = held ∙ sym (w .united ∙ rw e (or-zero-r set)) }
 
 -- ---- over the sets of a model
 

@@ -10,11 +10,12 @@ use native.Mathlib.Omega.{arith}
 use borrow.Author.Tests.{lt-ltb, le-ltb, not-true, not-false}
 use lib.IntN.{ℤ}
 use lib.ListN.{length}
-use Rattle.dqbf.specs.Limits.{textLimit}
+use Rattle.dqbf.specs.Limits.{textLimit, variableLimit}
 use Rattle.dqbf.specs.Text.{lineFeed, pieces}
 use Rattle.dqbf.specs.Model.{Model, modelOf}
 use Rattle.dqbf.specs.Reading.{Reader, start, accepted, readFrom}
 use Rattle.dqbf.specs.Reading as Reading
+use Rattle.sets.specs.Words.{wordsEach, asSets}
 use Rattle.tables.specs.Tables.{Tables, tablesOf}
 use Rattle.tables.specs.Spread.{spread, stateOf, blank, zeroState}
 use Rattle.tables.specs.WellFormed.{long}
@@ -37,11 +38,11 @@ read-state h = ap (λ (q : Progress). q .state) (h .progress)
 -- ---- the lengths
 
 -- lengths are kept
-pub long-kept : (t : Tables) → long t ≡ true → (literals : List ℤ) (ends sets kinds : List ℕ) → length literals ≡ length (t .literals) → length ends ≡ length (t .ends)
-    → length sets ≡ length (t .sets) → length kinds ≡ length (t .kinds) → long (tablesOf literals ends sets kinds) ≡ true
-long-kept t e literals ends sets kinds a b c d =
+pub long-kept : (t : Tables) → long t ≡ true → (literals : List ℤ) (ends words kinds : List ℕ) → length literals ≡ length (t .literals) → length ends ≡ length (t .ends)
+    → (variableLimit ≤ length (t .sets) → variableLimit ≤ length (asSets wordsEach words)) → length kinds ≡ length (t .kinds) → long (tablesOf literals ends words kinds) ≡ true
+long-kept t e literals ends words kinds a b c d =
     let l = long-is t e in
-    long-to (tablesOf literals ends sets kinds) (record { literals = omega (arith, a, l .literals); ends = omega (arith, b, l .ends); sets = omega (arith, c, l .sets); kinds = omega (arith, d, l .kinds) })
+    long-to (tablesOf literals ends words kinds) (record { literals = omega (arith, a, l .literals); ends = omega (arith, b, l .ends); sets = c (l .sets); kinds = omega (arith, d, l .kinds) })
 
 -- ---- the returns
 

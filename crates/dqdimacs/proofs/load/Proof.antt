@@ -1,3 +1,4 @@
+use Rattle.sets.proofs.Laws.Tables.{sets-kept}
 use borrow.Author.Needs.{needs}
 use mathlib.Core.Path.{_≡_, refl, ap, sym, _∙_}
 use borrow.Author.Tests.{not-false}
@@ -72,7 +73,7 @@ clear-requires-2 c κs =
     let tested = cleared .before .before .before .before .before .before in
     let start = tested .before .before .before .before .before .before .before .before .before in
     let kept = lines .read-lines .kept .1 in
-    long-kept _ (lent-cleared _ (start .args .text .now) (tested .long-enough .ensures) (cleared .before .before .before .before .before .if1 .left) (cleared .clear .ensures)) _ _ _ _ (kept .0) (kept .1 .0) (kept .1 .1 .0) (kept .1 .1 .1 .0)
+    long-kept _ (lent-cleared _ (start .args .text .now) (tested .long-enough .ensures) (cleared .before .before .before .before .before .if1 .left) (cleared .clear .ensures)) _ _ _ _ (kept .0) (kept .1 .0) (sets-kept (lines .read-lines .last .1 .1 .1 .0) (cleared .clear .last .1 .1 .0) (kept .1 .1 .0)) (kept .1 .1 .1 .0)
 
 refused-requires-3 : tie.Need-refused-requires-3
 refused-requires-3 c κs = search needs

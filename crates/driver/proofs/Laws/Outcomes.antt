@@ -6,8 +6,9 @@ use Prim.Native.Nat.{ℕ, _-_}
 use lib.Dec.{leb}
 use lib.IntN.{ℤ}
 use lib.ListN.{length, replicate}
-use Rattle.dqbf.specs.Limits.{clauseLimit, literalLimit, variableLimit}
+use Rattle.dqbf.specs.Limits.{clauseLimit, literalLimit}
 use Rattle.dqbf.specs.Questions.{ClauseAnswer, VariableAnswer}
+use Rattle.sets.specs.Words.{tableWords}
 use Rattle.tables.specs.Tables.{Tables, tablesOf, entry}
 use Rattle.tables.specs.declared.State.{State}
 use Rattle.questions.specs.Answers.{lengthAnswer, variableAnswer}
@@ -85,7 +86,7 @@ module _ (b : Buffers) (n : ℕ) {a : Bool} (told : a ≡ whole b) where
   show-short h e = rw (← told, not-true a h) e
 
   module _ (h : not a ≡ false) {l : List ℤ} {e w : List ℕ} {s : State} (p : l ≡ literalsIn literalLimit (b .literals)) (q : e ≡ entries 2 clauseLimit (b .ends))
-      (u : w ≡ entries 8 variableLimit (b .sets)) (v : s ≡ Codec.stateIn (b .state)) where
+      (u : w ≡ entries 8 tableWords (b .sets)) (v : s ≡ Codec.stateIn (b .state)) where
     -- an answer about decoded tables is one about the tables in the buffers
     held-answer : {A : Type 0} (f : Tables → State → ℕ → A) {x : A} → x ≡ f (tablesOf l e w (b .kinds)) s n → x ≡ f (tablesIn b) (stateIn b) n
     unfolding tablesIn stateIn

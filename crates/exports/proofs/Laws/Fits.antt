@@ -6,6 +6,7 @@ use Prim.Native.Nat.{ℕ, zero, suc, _+_, _-_, _/_, _<_, _≤_, _^_}
 use native.Mathlib.Nat.{pow-suc, le-trans}
 use native.Mathlib.Omega.{arith}
 use lib.IntN.{ℤ, pos, negsuc, natAbs}
+use lib.Pow.{pow-pos}
 use lib.Signed.{mag}
 use lib.ListN.{length, getD, replicate, drop-of-length-le, length-append}
 use Rattle.dqbf.specs.Limits.{tables, clauseLimit, literalLimit, variableLimit}
@@ -120,9 +121,10 @@ module _ (m : Model) (v : Valid tables m) where
       each-over (λ x. x < 256 ^ 2) 0 (omega arith) clauseLimit (endsFrom 0 (clauses m)) t h
       (λ i. let within = ends-within 0 8192 (clauses m) (omega (arith, v .few-literals)) i in omega arith)
 
-  pub sets-small : (t : List ℕ) → length t ≤ variableLimit → Fits 8 (over variableLimit 0 (setRow m) t)
+  -- each set has places below 256
+  pub sets-small : (t : List ℕ) → length t ≤ variableLimit → (i : ℕ) → getD (over variableLimit 0 (setRow m) t) i 0 < 2 ^ 256
   unfolding setRow setOf
-  sets-small t h = each-over (λ x. x < 256 ^ 8) 0 (omega arith) variableLimit (setRow m) t h (λ i. set-below 64 (setOf m (suc i)) (λ j e. let below = v .within (suc i) j e in omega (arith, v .few-universals)))
+  sets-small t h = each-over (λ x. x < 2 ^ 256) 0 (pow-pos 256) variableLimit (setRow m) t h (λ i. set-below 256 (setOf m (suc i)) (λ j e. let below = v .within (suc i) j e in omega (arith, v .few-universals)))
 
   pub counts-small : Fits 2 (counts (stateOf m))
   unfolding counts stateOf used clauses steps lowestEmpty

@@ -4,12 +4,14 @@
 --     spelled-short   the text has at most `tidyLimit` bytes
 --     spelled-fits    it ends at `placeLimit` at the latest
 use mathlib.Core.Path.{_≡_, refl, ap}
+use mathlib.Core.Logic.{_⊎_, inl, inr}
 use mathlib.Core.Bool.{Bool, true, false, cond, false≢true}
 use mathlib.Core.List.{List, [], _∷_, _++_, map, List·Memᴰ·head, List·Memᴰ·tail}
-use Prim.Native.Nat.{ℕ, zero, suc, _+_, _-_, _*_, _≤_}
-use native.Mathlib.Nat.{mul-suc, mul-add, mul-le-mul-left, mul-le-mul-right}
+use Prim.Native.Nat.{ℕ, zero, suc, _+_, _-_, _*_, _≤_, _<_}
+use native.Mathlib.Nat.{mul-suc, add-mul, mul-assoc, mul-comm, mul-le-mul-left, mul-le-mul-right}
 use native.Mathlib.Omega.{arith}
-use lib.Dec.{eqb}
+use borrow.Author.Tests.{leb-true, leb-false}
+use lib.Dec.{eqb, leb}
 use lib.IntN.{ℤ, pos, negsuc, natAbs}
 use lib.ListN.{length, length-append}
 use Rattle.dqbf.specs.Limits.{tables, variableLimit, universalLimit, clauseLimit, literalLimit}
@@ -23,7 +25,7 @@ use Rattle.dqbf.specs.Model.{Model, clauses, used, universalCount, kindOf, setO
 use Rattle.dqbf.specs.Valid.{Valid}
 use Rattle.dqbf.specs.Spelling.{literalWord, lineText, text}
 use Rattle.dqbf.specs.Spelled.{formulaPart, select, isUniversal, isMember, membersOf, isExistential, existentials, declarationOrder, aLines, dLineOf, linesOf, spelled, variables}
-use Rattle.dqbf.proofs.Laws.Tests.{and-left, eqb-is}
+use Rattle.dqbf.proofs.Laws.Tests.{either, and-left, eqb-is}
 use Rattle.dqbf.proofs.Laws.Models.{total-append}
 use Rattle.dqbf.proofs.Laws.Digits.{digits-few}
 use Rattle.dqbf.proofs.Soundness.Link.{numbers-length}
@@ -124,11 +126,21 @@ select-apart P Q h (x ∷ xs) = go (P x) (Q x) (h x) (select-apart P Q h xs)
     go false true k r = omega arith
     go false false k r = omega arith
 
--- the `d` lines of e existentials over u universals are longest for 448 and 64
-most : (e u : ℕ) → u ≤ universalLimit → u + e ≤ variableLimit → (8 + 4 * u) * e ≤ 118272
-most e u h k =
-    let j = 64 - u in
-    omega (arith, mul-le-mul-left {m = e} {n = 448 + j} (8 + 4 * u) (omega arith), mul-add (8 + 4 * u) 448 j, mul-le-mul-right {m = 8 + 4 * u} {n = 264} j (omega arith))
+-- two numbers of which one is 257 and some more, the other 257 and as much less at most
+product : (x y d : ℕ) → x ≤ 257 + d → y + d ≤ 257 → x * y ≤ 66049
+product x y d h k =
+    omega (arith, mul-le-mul-right {m = x} {n = 257 + d} y h, add-mul 257 d y, mul-le-mul-left {m = y} {n = 257} d (omega arith))
+
+-- the `d` lines of e existentials over u universals are longest for 257 and 255
+most : (e u : ℕ) → u + e ≤ variableLimit → (8 + 4 * u) * e ≤ 264196
+most e u k = let whole : (8 + 4 * u) * e ≡ 4 * ((2 + u) * e) = rw (← fours) (mul-assoc 4 (2 + u) e) in omega (arith, whole, go (either (leb e 257)))
+  where
+    fours : 4 * (2 + u) ≡ 8 + 4 * u
+    fours = omega arith
+
+    go : (leb e 257 ≡ true) ⊎ (leb e 257 ≡ false) → (2 + u) * e ≤ 66049
+    go (inl h) = let low : e ≤ 257 = leb-true e 257 h in product (2 + u) e (257 - e) (omega arith) (omega arith)
+    go (inr h) = let high : 257 < e = leb-false e 257 h in rw (mul-comm (2 + u) e) (product e (2 + u) (e - 257) (omega arith) (omega arith))
 
 -- ---- the lines of a formula part
 
@@ -211,7 +223,7 @@ module _ (m : Model) (v : Valid tables (formulaPart m)) where
         order-length tables p v,
         v .few-universals,
         d-lines es (λ x q. q),
-        most (length es) (universalCount p) (v .few-universals) apart,
+        most (length es) (universalCount p) apart,
         clauses-short (p .formula) (λ C q l k. omega (arith, few, v .own C q l k)),
         few-clauses,
         few-literals,

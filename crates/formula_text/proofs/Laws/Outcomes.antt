@@ -2,25 +2,28 @@
 use mathlib.Core.Path.{_≡_, sym, _∙_, ap}
 use mathlib.Core.Bool.{Bool, true, false}
 use mathlib.Core.List.{List, [], _∷_, _++_}
-use Prim.Native.Nat.{ℕ, _+_, _≤_}
+use Prim.Native.Nat.{ℕ, _+_, _*_, _≤_}
 use native.Mathlib.Omega.{arith}
 use borrow.Author.Tests.{le-ltb, ltb-false}
 use lib.Dec.{ltb}
+use lib.IntN.{ℤ}
 use lib.ListN.{length, take, drop}
 use lib.Seq.{length-take-le, take-take}
 use Rattle.dqbf.specs.Refusal.{refusal, _when_, first}
 use Rattle.dqbf.specs.Model.{Model, universalsIn, universalCount}
 use Rattle.dqbf.proofs.Laws.Tests.{first-some, first-none}
 use Rattle.tables.specs.declared.State.{State}
-use Rattle.tables.specs.Tables.{Tables, cut, modelIn}
+use Rattle.tables.specs.Tables.{Tables, tablesOf, cut, modelIn}
 use Rattle.tables.specs.WellFormed.{long, wellFormed}
 use Rattle.tables.specs.Unusable.{tableTests, unusable, unlessRefused, unusableNumber}
 use Rattle.tables.proofs.Laws.Formed.{Long, Formed, long-is, formed-is}
+use Rattle.tables.proofs.Laws.Lent.{long-words, taken-sets}
 use Rattle.tables.proofs.Laws.Held.{count-universals}
 use Rattle.tables.proofs.Laws.Spread.{valid-held}
 use Rattle.tables.proofs.Laws.Unusable.{usable, first-is, none-lent, none-formed}
 use Rattle.dqbf.specs.Spelling.{text}
 use Rattle.dqbf.specs.Spelled.{formulaIn, linesOf, spelled}
+use Rattle.sets.specs.Words.{wordsEach, asSets}
 use Rattle.words.specs.Laid.{Fits, Wrote}
 use Rattle.formula_lines.specs.Working.{Rises}
 use Rattle.formula_text.specs.Entries.{Entries}
@@ -57,7 +60,7 @@ module _ (t : Tables) (s : State) (lent : long t ≡ true) (formed : wellFormed 
   pub bound-kinds : s .bound .0 ≡ length kinds
   bound-kinds = sym (length-take-le (s .bound .0) (t .kinds) (omega (arith, F .counts .bound, L .kinds)))
 
-  pub bound-sets : s .bound .0 ≡ length sets
+  bound-sets : s .bound .0 ≡ length sets
   bound-sets = sym (length-take-le (s .bound .0) (t .sets) (omega (arith, F .counts .bound, L .sets)))
 
   pub formula-ends : s .formula .0 ≡ length ends
@@ -91,6 +94,17 @@ module _ (t : Tables) (s : State) (lent : long t ≡ true) (formed : wellFormed 
       few-universals = omega (arith, counted, F .counts .universals);
     },
   )
+
+-- the declared sets, by their words
+module _ (l : List ℤ) (e w k : List ℕ) (s : State) (lent : long (tablesOf l e w k) ≡ true) (formed : wellFormed (tablesOf l e w k) s ≡ true) where
+  bound-room : 4 * s .bound .0 ≤ length w
+  bound-room = omega (arith, formed-is (tablesOf l e w k) s formed .counts .bound, long-words w (long-is (tablesOf l e w k) lent .sets))
+
+  pub bound-words : 4 * s .bound .0 ≡ length (take (4 * s .bound .0) w)
+  bound-words = sym (length-take-le (4 * s .bound .0) w bound-room)
+
+  pub sets-declared : asSets wordsEach (take (4 * s .bound .0) w) ≡ take (s .bound .0) (asSets wordsEach w)
+  sets-declared = taken-sets w (s .bound .0) bound-room
 
 -- ---- whether an output is shorter than the text
 

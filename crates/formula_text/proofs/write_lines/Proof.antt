@@ -3,6 +3,7 @@ use mathlib.Core.List.{_++_}
 use native.Mathlib.Omega.{arith}
 use borrow.Author.Needs.{needs}
 use Rattle.formula_lines.proofs.Laws.Universals.{listed-few}
+use Rattle.sets.specs.Words.{wordsEach, asSets}
 use Rattle.formula_text.proofs.Laws.Whole.{headText, declaredText, dependingText, clausesText, whole-text}
 use Rattle.words.proofs.Laws.Laid.{fits-first, fits-second, fits-third, wrote-both}
 use Rattle.formula_text.proofs.write_lines.Statement.{statement}
@@ -19,7 +20,7 @@ write-header-requires c κs =
     let start = c .before .before .before .before .before .before in
     let a = start .args in
     let K = a .kinds .now in
-    let S = a .sets .now in
+    let S = asSets wordsEach (a .sets .now) in
     let E = a .ends .now in
     let L = a .literals .now in
     let N = a .names .now in
@@ -32,7 +33,7 @@ write-a-line-requires c κs =
     let start = at-write-header .before .before .before .before .before .before .before in
     let a = start .args in
     let K = a .kinds .now in
-    let S = a .sets .now in
+    let S = asSets wordsEach (a .sets .now) in
     let E = a .ends .now in
     let L = a .literals .now in
     let N = a .names .now in
@@ -47,7 +48,7 @@ write-d-lines-requires c κs =
     let start = at-write-header .before .before .before .before .before .before .before in
     let a = start .args in
     let K = a .kinds .now in
-    let S = a .sets .now in
+    let S = asSets wordsEach (a .sets .now) in
     let E = a .ends .now in
     let L = a .literals .now in
     let N = a .names .now in
@@ -63,7 +64,7 @@ write-clauses-requires c κs =
     let start = at-write-header .before .before .before .before .before .before .before in
     let a = start .args in
     let K = a .kinds .now in
-    let S = a .sets .now in
+    let S = asSets wordsEach (a .sets .now) in
     let E = a .ends .now in
     let L = a .literals .now in
     let N = a .names .now in
@@ -82,7 +83,7 @@ returns c =
     let at-write-header = at-write-a-line .before .before .before .before in
     let start = at-write-header .before .before .before .before .before .before .before in
     let a = start .args in
-    rw (whole-text (a .kinds .now) (a .sets .now) (a .ends .now) (a .literals .now) (start .pre .2))
+    rw (whole-text (a .kinds .now) (asSets wordsEach (a .sets .now)) (a .ends .now) (a .literals .now) (start .pre .2))
     (wrote-both (at-write-header .write-header .ensures) (wrote-both (at-write-a-line .write-a-line .ensures) (wrote-both (at-write-d-lines .write-d-lines .ensures) (at-write-clauses .write-clauses .ensures))))
 
 pub write-lines-spec : {M : Type 1} → statement M

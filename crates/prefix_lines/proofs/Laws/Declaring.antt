@@ -8,7 +8,7 @@ use mathlib.Core.Path.{_≡_, refl, ap, ap₂, sym, _∙_}
 use mathlib.Core.Bool.{Bool, true, false, cond, not, _&&_, and-false, true≢false}
 use mathlib.Core.List.{List, [], _∷_, _++_, map, append-nil, append-assoc, List·Memᴰ·eq-of-singleton}
 use mathlib.Core.Option.{Option, none}
-use Prim.Native.Nat.{ℕ, zero, suc, _+_, _-_, _≤_, _<_}
+use Prim.Native.Nat.{ℕ, zero, suc, _+_, _-_, _^_, _≤_, _<_}
 use native.Mathlib.Numerals.{add-one, sub-one}
 use native.Mathlib.Omega.{arith}
 use borrow.Author.Tests.{le-ltb, not-true, not-false}
@@ -18,14 +18,14 @@ use lib.Seq.{take-suc, take-all}
 use Rattle.dqbf.specs.Limits.{variableLimit, universalLimit}
 use Rattle.dqbf.specs.Refusal.{first}
 use Rattle.dqbf.specs.Literal.{_∈_, sorted}
-use Rattle.dqbf.specs.Set.{Set, single, union}
+use Rattle.dqbf.specs.Set.{Set, single}
 use Rattle.dqbf.specs.Formula.{Declaration, onA, onE, onD, Formula, universals, universalsOf, declared, var}
 use Rattle.dqbf.specs.Model.{Model, clauses, place, wordOf, kindFor, setFor, modelBy, modelOf, universalCount}
 use Rattle.dqbf.specs.Reading.{Form, aLine, eLine, dLine, Phase, opening, prefixLines, clauseLines, Reader, takesPrefix, elem, different, fresh, undeclarable, lineTests, declaring, taken}
 use Rattle.dqbf.proofs.Laws.Tests.{either, and-left, and-right, leb-yes, never, pass, no-not, ltb-yes, ltb-no}
 use Rattle.dqbf.proofs.Laws.Counting.{in-elem, elem-in}
 use Rattle.dqbf.proofs.Reading.Lines.{Sane, Positive, newOn, sane-form, universals-declared, universals-append, declared-append, declared-a, declared-e}
-use Rattle.tables.specs.Tables.{Tables, tablesOf}
+use Rattle.tables.specs.Tables.{Tables, rowsOf}
 use Rattle.tables.specs.Spread.{over, spread, stateOf, kindRow, setRow}
 use Rattle.tables.specs.declared.State.{State}
 use Rattle.tables.proofs.Laws.Rows.{over-set}
@@ -34,9 +34,9 @@ use Rattle.prefix_lines.specs.Lines.{phaseNumber, progressOf, universalA
 use Rattle.prefix_lines.specs.declared.progress.Progress.{Progress}
 use Rattle.prefix_lines.specs.declared.progress.LineAnswer.{LineAnswer}
 use Rattle.prefix_lines.proofs.Laws.Rows.{row-length, row-at}
-use Rattle.prefix_lines.proofs.Laws.Variables.{subject, made, declaringTo, kind-declared, place-new, places-more}
+use Rattle.prefix_lines.proofs.Laws.Variables.{subject, made, declaringTo, kind-declared, place-new}
 use Rattle.prefix_lines.proofs.Laws.Models.{model-kinds, model-sets, model-universals, kinds-declared, sets-declared, map-more}
-use Rattle.prefix_lines.proofs.Laws.Reading.{countsOf, model-state, phase-is, count-is, places-is, state-is, bound-is, universals-is, framed, kinds-over, sets-over}
+use Rattle.prefix_lines.proofs.Laws.Reading.{countsOf, model-state, phase-is, count-is, state-is, bound-is, universals-is, places-is, framed, spare-is, kinds-over, sets-over}
 use Rattle.prefix_lines.proofs.Laws.Fresh.{fresh-one, fresh-low, fresh-new, fresh-next, fresh-stop, many-fresh}
 
 -- ---- the test of one variable
@@ -77,13 +77,14 @@ module _ {t : Tables} {r : Reader} {p : Progress} {now : Tables} (h : ReadSoFar 
   sane : Sane (declaring r (d ∷ []))
   sane = rw is at (sane-form r f positive passes (h .sane))
 
-  declared-tables : {sets kinds : List ℕ} → sets ≡ set (now .sets) (subject d - 1) (setFor us (subject d) (made (universals (r .formula)) d)) → kinds ≡ set (now .kinds) (subject d - 1) (kindFor (made (universals (r .formula)) d))
-      → tablesOf (now .literals) (now .ends) sets kinds ≡ spread (modelOf (declaringTo φ d)) t
+  declared-tables : {sets spare kinds : List ℕ} → sets ≡ set (now .sets) (subject d - 1) (setFor us (subject d) (made (universals (r .formula)) d)) → spare ≡ now .spare
+      → kinds ≡ set (now .kinds) (subject d - 1) (kindFor (made (universals (r .formula)) d)) → rowsOf (now .literals) (now .ends) sets spare kinds ≡ spread (modelOf (declaringTo φ d)) t
   unfolding spread
-  declared-tables {sets} {kinds} e k = λ i. record {
+  declared-tables {sets} {spare} {kinds} e o k = λ i. record {
     literals = (ap (λ (x : Tables). x .literals) (h .tables) ∙ rows) i;
     ends = (ap (λ (x : Tables). x .ends) (h .tables) ∙ ends) i;
     sets = sets-now i;
+    spare = (o ∙ spare-is h) i;
     kinds = kinds-now i;
   }
     where
@@ -106,42 +107,38 @@ module _ {t : Tables} {r : Reader} {p : Progress} {now : Tables} (h : ReadSoFar 
           k ∙ rw (kinds-over h, over-set 0 variableLimit (modelOf φ .kinds) (t .kinds) (subject d - 1) (kindFor (made (universals (r .formula)) d)) (omega (arith, model-kinds φ)), ← kinds-declared φ d some low new)
           (ap (λ (l : List ℕ). over variableLimit 0 l (t .kinds)) (unfold kindRow modelBy in sym (append-nil (modelOf (declaringTo φ d) .kinds))))
 
-  progress-declared : {q : Progress} → q .phase ≡ 1 → q .count ≡ r .count → q .places ≡ wordOf us us → q .state ≡ countsOf (φ .bound) (length us) (map sorted (φ .clauses))
+  progress-declared : {q : Progress} → q .phase ≡ 1 → q .count ≡ r .count → q .state ≡ countsOf (φ .bound) (length us) (map sorted (φ .clauses))
       → q ≡ progressOf (declaring r (d ∷ []))
   unfolding progressOf declaring phaseNumber
-  progress-declared {q} a b c e =
-      let w : wordOf us us ≡ wordOf (universalsOf (φ .prefix ++ (d ∷ []))) (universalsOf (φ .prefix ++ (d ∷ []))) = rw (universals-append (φ .prefix) (d ∷ [])) in
+  progress-declared {q} a b e =
       let n : length us ≡ universalCount (modelOf (declaringTo φ d)) = ap length (sym (universals-append (φ .prefix) (d ∷ []))) ∙ sym (model-universals (declaring r (d ∷ [])) sane) in
       let s : q .state ≡ stateOf (modelOf (declaringTo φ d)) = e ∙ ap (λ m. countsOf (φ .bound) m (map sorted (φ .clauses))) n ∙ sym (model-state (declaringTo φ d)) in
-      λ i. record { phase = a i; count = b i; places = (c ∙ w) i; state = s i }
+      λ i. record { phase = a i; count = b i; state = s i }
 
-  pub read-declared : {q : Progress} {sets kinds : List ℕ} → q ≡ progressOf (declaring r (d ∷ [])) → sets ≡ set (now .sets) (subject d - 1) (setFor us (subject d) (made (universals (r .formula)) d))
-      → kinds ≡ set (now .kinds) (subject d - 1) (kindFor (made (universals (r .formula)) d)) → ReadSoFar t (declaring r (d ∷ [])) q (tablesOf (now .literals) (now .ends) sets kinds)
+  pub read-declared : {q : Progress} {sets spare kinds : List ℕ} → q ≡ progressOf (declaring r (d ∷ [])) → sets ≡ set (now .sets) (subject d - 1) (setFor us (subject d) (made (universals (r .formula)) d)) → spare ≡ now .spare
+      → kinds ≡ set (now .kinds) (subject d - 1) (kindFor (made (universals (r .formula)) d)) → ReadSoFar t (declaring r (d ∷ [])) q (rowsOf (now .literals) (now .ends) sets spare kinds)
   unfolding declaring
-  read-declared a e k = record {
+  read-declared a e o k = record {
     lent = h .lent;
     sane = sane;
     opened = λ z. absurd (let o : _≡_ {A = ℕ} 0 1 = cc in omega arith);
     few = h .few;
     progress = a;
-    tables = declared-tables e k;
+    tables = declared-tables e o k;
   }
 
   -- a universal more
-  pub progress-universal : (x : ℕ) → d ≡ onA x → r .phase ≡ prefixLines → {s : Set} → s ≡ single (p .state .universals) → universalAdded p s ≡ progressOf (declaring r (d ∷ []))
+  pub progress-universal : (x : ℕ) → d ≡ onA x → r .phase ≡ prefixLines → universalAdded p ≡ progressOf (declaring r (d ∷ []))
   unfolding universalAdded subject universalsOf phaseNumber
-  progress-universal x e inside {s} w =
-      let n : elem x (declared (φ .prefix)) ≡ false = rw e at new in
-      let apart : elem x (universals φ) ≡ false = not-universal (φ .prefix) x n in
+  progress-universal x e inside =
       progress-declared (phase-is h ∙ rw inside) (count-is h)
-      (rw (places-is h, w, universals-is h, e) (sym (places-more (universals φ) x apart)))
       (rw (state-is h, e) (ap (λ n. countsOf (φ .bound) n (map sorted (φ .clauses))) (sym (length-append (universals φ) (x ∷ [])))))
 
   -- no universal more
   pub progress-other : universalsOf (d ∷ []) ≡ [] → r .phase ≡ prefixLines → p ≡ progressOf (declaring r (d ∷ []))
   progress-other e inside =
       let same : us ≡ universals φ = rw e (append-nil (universals φ)) in
-      progress-declared (phase-is h ∙ rw inside (unfold phaseNumber in refl)) (count-is h) (places-is h ∙ rw same) (state-is h ∙ rw same)
+      progress-declared (phase-is h ∙ rw inside (unfold phaseNumber in refl)) (count-is h) (state-is h ∙ rw same)
 
 -- ---- one variable of an `a` line or an `e` line
 
@@ -157,12 +154,12 @@ module _ {t : Tables} {r : Reader} {p : Progress} {now : Tables} (h : ReadSoFar 
   is-fresh : b ≡ fresh (r .formula .bound) (declared (r .formula .prefix)) (x ∷ [])
   is-fresh = told ∙ declarable-told h x some
 
-  pub one-refused : (universal : Bool) (kind : ℕ) (s : Set) {sets kinds : List ℕ} → not b ≡ true → sets ≡ cond b (set (now .sets) (x - 1) s) (now .sets)
-      → kinds ≡ cond b (set (now .kinds) (x - 1) kind) (now .kinds) → DeclaredAll universal (x ∷ []) t r (record { progress = p; refusal = 12 }) (tablesOf (now .literals) (now .ends) sets kinds)
-  one-refused universal kind s e m k = record {
+  pub one-refused : (universal : Bool) (kind : ℕ) (s : Set) {sets spare kinds : List ℕ} → not b ≡ true → sets ≡ cond b (set (now .sets) (x - 1) s) (now .sets) → spare ≡ now .spare
+      → kinds ≡ cond b (set (now .kinds) (x - 1) kind) (now .kinds) → DeclaredAll universal (x ∷ []) t r (record { progress = p; refusal = 12 }) (rowsOf (now .literals) (now .ends) sets spare kinds)
+  one-refused universal kind s e m o k = record {
     told = rw (← is-fresh, not-true b e);
     held = λ z. absurd (omega arith);
-    framed = rw (rw (not-true b e) at m, rw (not-true b e) at k) (framed h);
+    framed = rw (rw (not-true b e) at m, o, rw (not-true b e) at k) (framed h);
   }
 
   module _ (e : not b ≡ false) where
@@ -183,14 +180,14 @@ module _ {t : Tables} {r : Reader} {p : Progress} {now : Tables} (h : ReadSoFar 
     unfolding lineTests undeclarable
     passes-e = pass _ _ _ (inside-prefix inside) (pass _ _ _ (no-not _ ok) no-tests)
 
-    pub one-universal : {q : Progress} {s : Set} {sets kinds : List ℕ} → p .state .universals < universalLimit → s ≡ single (p .state .universals) → sets ≡ cond b (set (now .sets) (x - 1) s) (now .sets)
-        → kinds ≡ cond b (set (now .kinds) (x - 1) 1) (now .kinds) → q ≡ universalAdded p s → DeclaredAll true (x ∷ []) t r (record { progress = q; refusal = 0 }) (tablesOf (now .literals) (now .ends) sets kinds)
+    pub one-universal : {q : Progress} {s : Set} {sets spare kinds : List ℕ} → p .state .universals < universalLimit → s ≡ single (p .state .universals) → sets ≡ cond b (set (now .sets) (x - 1) s) (now .sets) → spare ≡ now .spare
+        → kinds ≡ cond b (set (now .kinds) (x - 1) 1) (now .kinds) → q ≡ universalAdded p → DeclaredAll true (x ∷ []) t r (record { progress = q; refusal = 0 }) (rowsOf (now .literals) (now .ends) sets spare kinds)
     unfolding onLine taken subject made setFor kindFor universalsOf newOn
-    one-universal {q} {s} {sets} {kinds} u w m k f =
+    one-universal {q} {s} u w m o k f =
         let own : s ≡ single (place (universals (r .formula) ++ (x ∷ [])) x) =
         w ∙ ap single (universals-is h ∙ sym (place-new (universals (r .formula)) x (not-universal (r .formula .prefix) x new))) in
         let done = read-declared h (onA x) (aLine (x ∷ [])) refl (passes-a u) positive some low new
-        (progress-universal h (onA x) (aLine (x ∷ [])) refl (passes-a u) positive some low new x refl inside w) (rw (not-false b e) at m ∙ rw own) (rw (not-false b e) at k) in
+        (progress-universal h (onA x) (aLine (x ∷ [])) refl (passes-a u) positive some low new x refl inside) (rw (not-false b e) at m ∙ rw own) o (rw (not-false b e) at k) in
         rw f (record { told = rw ok; held = λ z. done; framed = framed done })
       where
         low : x ≤ r .formula .bound
@@ -199,14 +196,14 @@ module _ {t : Tables} {r : Reader} {p : Progress} {now : Tables} (h : ReadSoFar 
         new : elem x (declared (r .formula .prefix)) ≡ false
         new = fresh-new (r .formula .bound) (declared (r .formula .prefix)) x ok
 
-    pub one-existential : {sets kinds : List ℕ} → sets ≡ cond b (set (now .sets) (x - 1) (p .places)) (now .sets) → kinds ≡ cond b (set (now .kinds) (x - 1) 2) (now .kinds)
-        → DeclaredAll false (x ∷ []) t r (record { progress = p; refusal = 0 }) (tablesOf (now .literals) (now .ends) sets kinds)
+    pub one-existential : {s : Set} {sets spare kinds : List ℕ} → s ≡ 2 ^ (p .state .universals) - 1 → sets ≡ cond b (set (now .sets) (x - 1) s) (now .sets) → spare ≡ now .spare
+        → kinds ≡ cond b (set (now .kinds) (x - 1) 2) (now .kinds) → DeclaredAll false (x ∷ []) t r (record { progress = p; refusal = 0 }) (rowsOf (now .literals) (now .ends) sets spare kinds)
     unfolding onLine taken subject made setFor kindFor universalsOf newOn
-    one-existential m k =
+    one-existential {s} w m o k =
         let us = universals (r .formula) in
-        let own : p .places ≡ wordOf (us ++ []) us = places-is h ∙ ap (λ (l : List ℕ). wordOf l us) (sym (append-nil us)) in
+        let own : s ≡ wordOf (us ++ []) us = w ∙ places-is h ∙ ap (λ (l : List ℕ). wordOf l us) (sym (append-nil us)) in
         let done = read-declared h (onE x) (eLine (x ∷ [])) refl passes-e positive some low new
-        (progress-other h (onE x) (eLine (x ∷ [])) refl passes-e positive some low new refl inside) (rw (not-false b e) at m ∙ rw own) (rw (not-false b e) at k) in
+        (progress-other h (onE x) (eLine (x ∷ [])) refl passes-e positive some low new refl inside) (rw (not-false b e) at m ∙ rw own) o (rw (not-false b e) at k) in
         record { told = rw ok; held = λ z. done; framed = framed done }
       where
         low : x ≤ r .formula .bound
@@ -216,12 +213,12 @@ module _ {t : Tables} {r : Reader} {p : Progress} {now : Tables} (h : ReadSoFar 
         new = fresh-new (r .formula .bound) (declared (r .formula .prefix)) x ok
 
 -- the counts
-pub one-same : (p : Progress) (n : ℕ) → OneMore p (record { progress = p; refusal = n })
-one-same p n = record { bound = refl; universals = omega arith }
+pub one-same : (p : Progress) (n : ℕ) → p .state .universals ≤ universalLimit → OneMore p (record { progress = p; refusal = n })
+one-same p n few = record { bound = refl; universals = omega arith; few = few }
 
-pub one-added : (p : Progress) (s : Set) {q : Progress} (n : ℕ) → q ≡ universalAdded p s → OneMore p (record { progress = q; refusal = n })
+pub one-added : (p : Progress) {q : Progress} (n : ℕ) → p .state .universals < universalLimit → q ≡ universalAdded p → OneMore p (record { progress = q; refusal = n })
 unfolding universalAdded
-one-added p s n e = rw e (record { bound = refl; universals = omega arith })
+one-added p n few e = rw e (record { bound = refl; universals = omega arith; few = omega arith })
 
 -- ---- the variables of a line, one after the other
 

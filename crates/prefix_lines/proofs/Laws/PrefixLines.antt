@@ -26,7 +26,7 @@ use Rattle.dqbf.proofs.Reading.Lines.{newOn, universals-append, universals-a}
 use Rattle.ranks.specs.Order.{allInserted, Arranged}
 use Rattle.ranks.proofs.Laws.Insertion.{all-grows}
 use Rattle.ranks.proofs.Laws.Sorting.{universals-count, universals-front}
-use Rattle.tables.specs.Tables.{Tables, tablesOf, entry}
+use Rattle.tables.specs.Tables.{Tables, rowsOf, entry}
 use Rattle.tables.specs.WellFormed.{allOf}
 use Rattle.prefix_lines.specs.Rows.{declarable, isUniversal, unionOf}
 use Rattle.prefix_lines.specs.Lines.{phaseNumber, progressOf, refusalOf, onLine, ReadSoFar, Known, LineRead, DeclaredAll}
@@ -113,10 +113,10 @@ module _ {t : Tables} {r : Reader} {p : Progress} {now : Tables} (h : ReadSoFar 
         is-fresh : a ≡ fresh (r .formula .bound) (declared (r .formula .prefix)) (x ∷ [])
         is-fresh = told ∙ declarable-told h x some
 
-        pub d-refused : not a ≡ true → {sets kinds : List ℕ} → sets ≡ cond a (set (now .sets) (x - 1) s) (now .sets) → kinds ≡ cond a (set (now .kinds) (x - 1) 2) (now .kinds)
-            → LineRead t r (dLine x S) (record { progress = p; refusal = 12 }) (tablesOf (now .literals) (now .ends) sets kinds)
+        pub d-refused : not a ≡ true → {sets spare kinds : List ℕ} → sets ≡ cond a (set (now .sets) (x - 1) s) (now .sets) → spare ≡ now .spare → kinds ≡ cond a (set (now .kinds) (x - 1) 2) (now .kinds)
+            → LineRead t r (dLine x S) (record { progress = p; refusal = 12 }) (rowsOf (now .literals) (now .ends) sets spare kinds)
         unfolding undeclarable
-        d-refused n m k = rw (rw (not-true a n) at m, rw (not-true a n) at k) (d-12 (or-left (not (fresh (r .formula .bound) (declared (r .formula .prefix)) (x ∷ []))) (not (allIn (us r) S)) (rw (← is-fresh) n)))
+        d-refused n m o k = rw (rw (not-true a n) at m, o, rw (not-true a n) at k) (d-12 (or-left (not (fresh (r .formula .bound) (declared (r .formula .prefix)) (x ∷ []))) (not (allIn (us r) S)) (rw (← is-fresh) n)))
 
         module _ (new : not a ≡ false) where
           ok : fresh (r .formula .bound) (declared (r .formula .prefix)) (x ∷ []) ≡ true
@@ -140,14 +140,14 @@ module _ {t : Tables} {r : Reader} {p : Progress} {now : Tables} (h : ReadSoFar 
           apart : elem x (declared (r .formula .prefix)) ≡ false
           apart = fresh-new (r .formula .bound) (declared (r .formula .prefix)) x ok
 
-          pub d-read : {sets kinds : List ℕ} → sets ≡ cond a (set (now .sets) (x - 1) s) (now .sets) → kinds ≡ cond a (set (now .kinds) (x - 1) 2) (now .kinds)
-              → LineRead t r (dLine x S) (record { progress = p; refusal = 0 }) (tablesOf (now .literals) (now .ends) sets kinds)
+          pub d-read : {sets spare kinds : List ℕ} → sets ≡ cond a (set (now .sets) (x - 1) s) (now .sets) → spare ≡ now .spare → kinds ≡ cond a (set (now .kinds) (x - 1) 2) (now .kinds)
+              → LineRead t r (dLine x S) (record { progress = p; refusal = 0 }) (rowsOf (now .literals) (now .ends) sets spare kinds)
           unfolding taken subject made setFor kindFor universalsOf newOn refusalOf
-          d-read m k =
+          d-read m o k =
               let own : s ≡ wordOf (us r ++ []) S = word ∙ union-told S known ∙ ap (λ (l : List ℕ). wordOf l S) (sym (append-nil (us r))) in
               line-taken passes
               (read-declared h (onD x S) (dLine x S) refl passes positive some low apart
-              (progress-other h (onD x S) (dLine x S) refl passes positive some low apart refl inside) (rw (not-false a new) at m ∙ rw own) (rw (not-false a new) at k))
+              (progress-other h (onD x S) (dLine x S) refl passes positive some low apart refl inside) (rw (not-false a new) at m ∙ rw own) o (rw (not-false a new) at k))
 
   -- ---- an `a` line
 
@@ -166,7 +166,7 @@ module _ {t : Tables} {r : Reader} {p : Progress} {now : Tables} (h : ReadSoFar 
     counted : n ≡ min (length (different (us r ++ xs))) (universalLimit + 1)
     counted = universals-count (us r) xs universalLimit n out put
 
-    -- 11: more than 64 different numbers
+    -- 11: more than 256 different numbers
     pub a-over : universalLimit < n → LineRead t r (aLine xs) (record { progress = p; refusal = 11 }) now
     unfolding lineTests
     a-over w =

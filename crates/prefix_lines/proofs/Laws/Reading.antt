@@ -7,7 +7,7 @@
 use mathlib.Core.Path.{_≡_, refl, ap, sym, _∙_}
 use mathlib.Core.Bool.{Bool, true, false}
 use mathlib.Core.List.{List, [], _∷_, _++_, map, append-nil}
-use Prim.Native.Nat.{ℕ, zero, suc, _+_, _-_, _≤_, _<_}
+use Prim.Native.Nat.{ℕ, zero, suc, _+_, _-_, _^_, _≤_, _<_}
 use native.Mathlib.Omega.{arith}
 use lib.IntN.{ℤ, pos}
 use lib.ListN.{length, take, getD, replicate, length-map}
@@ -17,7 +17,7 @@ use Rattle.dqbf.specs.Set.{Set}
 use Rattle.dqbf.specs.Formula.{Formula, universals}
 use Rattle.dqbf.specs.Model.{Model, clauses, steps, universalCount, emptyFrom, lowestEmpty, modelBy, modelOf, wordOf}
 use Rattle.dqbf.specs.Reading.{Reader, isOpening, takesPrefix, takesClauses, Phase, opening, prefixLines, clauseLines}
-use Rattle.dqbf.proofs.Reading.Lines.{Sane}
+use Rattle.dqbf.proofs.Reading.Lines.{Sane, once-universals}
 use Rattle.tables.specs.Tables.{Tables, tablesOf}
 use Rattle.tables.specs.Spread.{flat, endsFrom, over, spread, stateOf, kindRow, setRow, blank}
 use Rattle.tables.specs.WellFormed.{long}
@@ -27,6 +27,7 @@ use Rattle.tables.proofs.Laws.Rows.{over-length, over-take, over-over}
 use Rattle.tables.proofs.Laws.Formed.{Long, long-is}
 use Rattle.prefix_lines.specs.Lines.{phaseNumber, progressOf, ReadSoFar, Framed}
 use Rattle.prefix_lines.specs.declared.progress.Progress.{Progress}
+use Rattle.prefix_lines.proofs.Laws.Variables.{places-full}
 use Rattle.prefix_lines.proofs.Laws.Models.{model-kinds, model-sets, model-clauses, model-used, model-universals}
 
 -- ---- the state
@@ -104,10 +105,6 @@ module _ {t : Tables} {r : Reader} {p : Progress} {now : Tables} (h : ReadSoFar 
   unfolding progressOf
   count-is = ap (λ (q : Progress). q .count) (h .progress)
 
-  pub places-is : p .places ≡ wordOf (universals φ) (universals φ)
-  unfolding progressOf
-  places-is = ap (λ (q : Progress). q .places) (h .progress)
-
   pub state-is : p .state ≡ countsOf (φ .bound) (length (universals φ)) (map sorted (φ .clauses))
   unfolding progressOf
   state-is =
@@ -119,6 +116,10 @@ module _ {t : Tables} {r : Reader} {p : Progress} {now : Tables} (h : ReadSoFar 
 
   pub universals-is : p .state .universals ≡ length (universals φ)
   universals-is = ap (λ (s : State). s .universals) state-is
+
+  -- the places of the universals so far
+  pub places-is : 2 ^ (p .state .universals) - 1 ≡ wordOf (universals φ) (universals φ)
+  places-is = rw universals-is (sym (places-full (universals φ) (once-universals (φ .prefix) (h .sane .once))))
 
   pub clauses-is : p .state .clauses .0 ≡ length (φ .clauses)
   clauses-is = ap (λ (s : State). s .clauses .0) state-is ∙ length-map (φ .clauses) sorted
@@ -163,8 +164,13 @@ module _ {t : Tables} {r : Reader} {p : Progress} {now : Tables} (h : ReadSoFar 
         literals = over-over (pos 0) literalLimit (flat (clauses blank)) (flat (clauses (modelOf φ))) (t .literals) literals-fit i;
         ends = over-over 0 clauseLimit (endsFrom 0 (clauses blank)) (endsFrom 0 (clauses (modelOf φ))) (t .ends) ends-fit i;
         sets = over-over 0 variableLimit (setRow blank) (setRow (modelOf φ)) (t .sets) sets-fit i;
+        spare = t .spare;
         kinds = over-over 0 variableLimit (kindRow blank) (kindRow (modelOf φ)) (t .kinds) kinds-fit i;
       })
+
+  pub spare-is : now .spare ≡ t .spare
+  unfolding spread
+  spare-is = ap (λ (x : Tables). x .spare) (h .tables)
 
   pub kinds-over : now .kinds ≡ over variableLimit 0 (modelOf φ .kinds) (t .kinds)
   unfolding spread kindRow modelBy

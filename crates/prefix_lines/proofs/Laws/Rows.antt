@@ -90,9 +90,9 @@ module _ (bound x kind s : ℕ) (sets kinds : List ℕ) where
   unfolding declarable
   declared-twice n = refused-row (rw (ne-eqb (getD kinds (x - 1) 0) 0 n) (and-false (leb x bound)))
 
-  pub declared-new : x ≤ bound → getD kinds (x - 1) 0 ≡ 0 → Declared bound x kind s sets kinds true (set sets (x - 1) s) (set kinds (x - 1) kind)
+  pub declared-new : x ≤ bound → getD kinds (x - 1) 0 ≡ 0 → {sets′ : List ℕ} → sets′ ≡ set sets (x - 1) s → Declared bound x kind s sets kinds true sets′ (set kinds (x - 1) kind)
   unfolding declarable
-  declared-new h e = record { told = rw (le-leb x bound h, e); sets-are = refl; kinds-are = refl }
+  declared-new h e w = record { told = rw (le-leb x bound h, e); sets-are = w; kinds-are = refl }
 
 -- ---- kinds and sets of several variables
 

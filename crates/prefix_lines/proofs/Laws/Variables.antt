@@ -2,17 +2,20 @@
 --     subject, made                                     the variable of a declaration, and what it is
 --     kind-declared, kind-universal, set-universal      a variable is declared, or a universal, by its kind; a universal's set
 --     var-other, var-new, var-none                      one more declaration
---     place-grown, place-new, word-grown, word-more, places-more, set-grown     more universals: earlier places and sets stay
+--     place-grown, place-new, word-grown, word-more, places-full, set-grown     more universals: earlier places and sets stay
 -- Assumes nothing.
 use mathlib.Core.Path.{_≡_, refl, ap, sym, _∙_}
 use mathlib.Core.Logic.{_⊎_, inl, inr}
 use mathlib.Core.Bool.{Bool, true, false, cond, not, _||_, true≢false}
 use mathlib.Core.List.{List, [], _∷_, _++_, append-nil, append-assoc, List·Memᴰ·head, List·Memᴰ·tail, List·Memᴰ·cases-cons, List·Memᴰ·not-nil}
-use Prim.Native.Nat.{ℕ, suc, _+_}
+use Prim.Native.Nat.{ℕ, zero, suc, _+_, _-_, _^_, _≤_}
+use native.Mathlib.Nat.{one-mul, pow-suc}
 use native.Mathlib.Omega.{arith}
-use lib.Bits.{bitOr, or-zero-r}
+use lib.Bits.{bitOr, or-zero-r, or-shifted-r}
 use lib.Dec.{eqb}
-use lib.ListN.{length}
+use lib.ListN.{length, getD, take}
+use lib.Pow.{pow-pos, ones-lt}
+use lib.Seq.{take-length, take-suc}
 use Rattle.dqbf.specs.Literal.{_∈_}
 use Rattle.dqbf.specs.Set.{Set, single, union, bit}
 use Rattle.dqbf.specs.Formula.{Declaration, onA, onE, onD, Formula, declared, universalsOf, universals, eSet, Var, undeclared, universal, existential, declaredAs, varBy, var}
@@ -20,7 +23,7 @@ use Rattle.dqbf.specs.Model.{place, wordOf, kindFor, setFor}
 use Rattle.dqbf.specs.Reading.{elem}
 use Rattle.dqbf.proofs.Laws.Tests.{eqb-is, eqb-not, eqb-same, never, or-no}
 use Rattle.dqbf.proofs.Laws.Words.{bit-ext, bit-or}
-use Rattle.dqbf.proofs.Laws.Counting.{Once, elem-in}
+use Rattle.dqbf.proofs.Laws.Counting.{Once, elem-in, in-elem, place-at}
 use Rattle.dqbf.proofs.Reading.Lines.{universals-declared, universals-append}
 use Rattle.dqbf.proofs.LoadValid.{eSet-names, set-in}
 use Rattle.dqbf.proofs.Soundness.Link.{universal-in}
@@ -187,12 +190,20 @@ unfolding wordOf
 word-more us [] T = refl
 word-more us (y ∷ S) T = rw (word-more us S T) (sym (union-assoc (single (place us y)) (wordOf us S) (wordOf us T)))
 
--- the places of all universals, with one universal more
-pub places-more : (us : List ℕ) (x : ℕ) → elem x us ≡ false → wordOf (us ++ (x ∷ [])) (us ++ (x ∷ [])) ≡ union (wordOf us us) (single (length us))
-places-more us x h = word-more (us ++ (x ∷ [])) us (x ∷ []) ∙ rw (word-grown us (x ∷ []) us (λ u q. q)) (ap (union (wordOf us us)) last)
+-- the places of all universals are the lowest ones
+pub places-full : (us : List ℕ) → Once us → wordOf us us ≡ 2 ^ length us - 1
+places-full us once = ap (wordOf us) (sym (take-length us)) ∙ go (length us) (omega arith)
   where
-    last : wordOf (us ++ (x ∷ [])) (x ∷ []) ≡ single (length us)
-    last = unfold wordOf in or-zero-r (single (place (us ++ (x ∷ [])) x)) ∙ ap single (place-new us x h)
+    filled : (k : ℕ) → union (2 ^ k - 1) (2 ^ k) ≡ 2 ^ suc k - 1
+    filled k =
+        let shifted = or-shifted-r 1 k (2 ^ k - 1) (ones-lt k) in
+        rw (one-mul (2 ^ k)) at shifted ∙ rw (pow-suc 2 k) (omega (arith, pow-pos k))
+
+    go : (k : ℕ) → k ≤ length us → wordOf us (take k us) ≡ 2 ^ k - 1
+    go zero h = unfold wordOf in refl
+    go (suc k) h =
+        let one : wordOf us (getD us k 0 ∷ []) ≡ 2 ^ k = unfold wordOf in or-zero-r (single (place us (getD us k 0))) ∙ ap single (place-at us k once h) in
+        rw (take-suc us k 0 h, word-more us (take k us) (getD us k 0 ∷ []), go k (omega arith), one) (filled k)
 
 -- the sets so far stay, where the members of each are universals
 pub set-grown : (φ : Formula) (vs : List ℕ) (x : ℕ) → ((y : ℕ) (S : List ℕ) → onD y S ∈ φ .prefix → (u : ℕ) → u ∈ S → u ∈ universals φ)

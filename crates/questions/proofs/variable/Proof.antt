@@ -1,7 +1,6 @@
 -- `questions::variable` meets its contract.
 use native.Mathlib.Omega.{arith}
 use borrow.Author.Needs.{needs}
-use lib.Count.{ones-le}
 use Rattle.tables.specs.Tables.{Tables, tablesOf}
 use Rattle.questions.specs.Answers.{variableTold}
 use Rattle.questions.proofs.Laws.Outcomes.{variable-refused, variable-zero, variable-past, variable-told}
@@ -40,7 +39,7 @@ size-requires : tie.Need-size-requires
 size-requires c κs = search needs
 
 cast-universals : tie.Need-cast-universals
-cast-universals c = omega (arith, c .size .ensures, ones-le 64 (c .before .set-of .result) (c .before .set-of .ok))
+cast-universals c = omega (arith, c .size .ensures .1)
 
 returns-4 : tie.Need-returns-4
 unfolding variableTold
@@ -51,7 +50,7 @@ returns-4 c =
     let at-if2 = at-if3 .before .before .before in
     let at-if1 = at-if2 .before .before .before in
     let at-first-refusal = at-if1 .before in
-    variable-told (lent at-first-refusal) _ _ (at-first-refusal .first-refusal .ensures) (at-if1 .if1 .left) (at-if2 .if2 .left) (at-if3 .if3 .left) _ _ _ (at-kind-of .kind-of .ensures) (at-set-of .set-of .ensures) (c .size .ensures)
+    variable-told (lent at-first-refusal) _ _ (at-first-refusal .first-refusal .ensures) (at-if1 .if1 .left) (at-if2 .if2 .left) (at-if3 .if3 .left) _ _ _ (at-kind-of .kind-of .ensures) (at-set-of .set-of .ensures) (c .size .ensures .0)
 
 pub variable-spec : {M : Type 1} → statement M
 variable-spec =

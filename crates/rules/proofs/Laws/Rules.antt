@@ -2,8 +2,8 @@
 use mathlib.Core.Path.{_≡_, refl, sym, _∙_, ap}
 use mathlib.Core.Logic.{_⊎_, inl, inr, _≢_}
 use mathlib.Core.Bool.{Bool, true, false, not, _&&_, _||_, true≢false}
-use mathlib.Core.List.{[], _∷_, _++_}
-use Prim.Native.Nat.{ℕ, zero, suc, _+_, _-_, _≤_, _<_}
+use mathlib.Core.List.{List, [], _∷_, _++_}
+use Prim.Native.Nat.{ℕ, zero, suc, _+_, _-_, _*_, _≤_, _<_}
 use native.Mathlib.Omega.{arith}
 use borrow.Author.Tests.{eq-eqb, ne-eqb, lt-ltb, le-ltb}
 use lib.Dec.{eqb, ltb}
@@ -20,7 +20,8 @@ use Rattle.dqbf.specs.Run.{Examined, examine}
 use Rattle.dqbf.proofs.Laws.Tests.{or-no, or-left, or-right, no-or, eqb-same, ltb-no}
 use Rattle.dqbf.proofs.Laws.Clauses.{holds-in, pick-short}
 use Rattle.dqbf.proofs.Laws.Outcomes.{resolution-first, resolution-second, resolution-22, resolution-24, resolution-23, resolution-25, resolution-accepted, reduction-21, reduction-22, reduction-26, reduction-27, reduction-25, reduction-accepted, fork-21, fork-28, fork-29, fork-25, fork-accepted}
-use Rattle.tables.specs.Tables.{Tables, modelIn, stretch, entry}
+use Rattle.sets.specs.Words.{wordsEach, asSets}
+use Rattle.tables.specs.Tables.{Tables, tablesOf, modelIn, stretch, entry}
 use Rattle.tables.specs.declared.State.{State}
 use Rattle.dqbf.specs.Valid.{Ascending}
 use Rattle.clauses.specs.Places.{placeOf, butAt}
@@ -31,6 +32,7 @@ use Rattle.tables.specs.Spread.{setRow}
 use Rattle.tables.proofs.Laws.Adding.{variable-count}
 use Rattle.tables.proofs.Laws.Held.{sets-is}
 use Rattle.tables.proofs.Laws.Formed.{long-is, formed-is}
+use Rattle.tables.proofs.Laws.Lent.{long-words, taken-sets}
 use Rattle.tables.proofs.Laws.Spread.{valid-held}
 use Rattle.tables.proofs.Laws.Entries.{unknown-told, range-rises, range-ends, range-narrow, clause-at, clause-there, kind-told, set-told, literal-in-use}
 use Rattle.additions.specs.Adding.{Holding, After, refusedBy, One, Two, fitted, tested}
@@ -140,6 +142,11 @@ module _ (t : Tables) (s : State) (h : Holding t s) where
         let r = clause-variable l (rw (ranged-clause e) at q) in
         let inside : s .variables .0 ≤ length (t .sets) = omega (arith, formed-is t s (h .formed) .counts .variables, long-is t (h .lent) .sets) in
         (r .0, rw (isN, length-take-le (s .variables .0) (t .sets) inside) (r .1))
+
+-- the sets in use, by their words
+pub sets-taken : (l : List ℤ) (e w k : List ℕ) (s : State) → Holding (tablesOf l e w k) s → asSets wordsEach (take (4 * s .variables .0) w) ≡ take (s .variables .0) (asSets wordsEach w)
+sets-taken l e w k s h =
+    taken-sets w (s .variables .0) (omega (arith, formed-is (tablesOf l e w k) s (h .formed) .counts .variables, long-words w (long-is (tablesOf l e w k) (h .lent) .sets)))
 
 -- ---- resolution: what is left of its tests behind 22 is the resolvent's
 

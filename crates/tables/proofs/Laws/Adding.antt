@@ -26,7 +26,7 @@ use Rattle.dqbf.specs.Published.{Fits}
 use Rattle.dqbf.proofs.Laws.Tests.{or-no}
 use Rattle.dqbf.proofs.Laws.Models.{more-clauses, total-append}
 use Rattle.tables.specs.declared.State.{State}
-use Rattle.tables.specs.Tables.{Tables, tablesOf, modelIn}
+use Rattle.tables.specs.Tables.{Tables, rowsOf, modelIn}
 use Rattle.tables.specs.Spread.{flat, endsFrom, over, spread, stateOf, kindRow, setRow}
 use Rattle.tables.specs.WellFormed.{long, wellFormed}
 use Rattle.tables.specs.Adding.{stored, lowestAfter, clauseEnded, variableAdded, stepCounted, formulaCounted, withFormula, full, RoomFor, Added}
@@ -221,13 +221,14 @@ module _ (m : Model) (C : Clause) (none : m .derived ≡ []) where
       (by-counts _ _ refl refl refl (length-one (m .formula) C) (length-one (clauses m) C) (total-one (clauses m) C) refl (empty-more (clauses m) C))
 
   pub formula-tables : (t : Tables) → length (clauses m) < clauseLimit → total (clauses m) + length C ≤ literalLimit
-      → tablesOf (stored (spread m t .literals) (total (clauses m)) C) (set (spread m t .ends) (length (clauses m)) (total (clauses m) + length C)) (spread m t .sets) (spread m t .kinds)
+      → rowsOf (stored (spread m t .literals) (total (clauses m)) C) (set (spread m t .ends) (length (clauses m)) (total (clauses m) + length C)) (spread m t .sets) (spread m t .spare) (spread m t .kinds)
       ≡ spread (withFormula m C) t
   unfolding spread setRow kindRow withFormula
   formula-tables t h k = rw formula-clauses (λ i. record {
     literals = literals-one (clauses m) C (t .literals) k i;
     ends = ends-one (clauses m) C (t .ends) h i;
     sets = over variableLimit 0 (m .sets ++ m .forks) (t .sets);
+    spare = t .spare;
     kinds = over variableLimit 0 (m .kinds ++ replicate (length (m .forks)) 3) (t .kinds);
   })
 
@@ -236,8 +237,8 @@ module _ (m : Model) (C : Clause) (none : m .derived ≡ []) where
 -- an addition's entries stored behind the entries in use
 abbrev pub storedAll : Tables → State → Addition → Tables
 storedAll t s a =
-    tablesOf (stored (t .literals) (s .literals) (flat (a .clauses))) (stored (t .ends) (s .clauses .0) (endsFrom (s .literals) (a .clauses)))
-    (stored (t .sets) (s .variables .0) (a .forks)) (stored (t .kinds) (s .variables .0) (replicate (length (a .forks)) 3))
+    rowsOf (stored (t .literals) (s .literals) (flat (a .clauses))) (stored (t .ends) (s .clauses .0) (endsFrom (s .literals) (a .clauses)))
+    (stored (t .sets) (s .variables .0) (a .forks)) (t .spare) (stored (t .kinds) (s .variables .0) (replicate (length (a .forks)) 3))
 
 module _ (t : Tables) (s : State) (lent : long t ≡ true) (formed : wellFormed t s ≡ true) where
   abbrev m : Model
@@ -247,8 +248,8 @@ module _ (t : Tables) (s : State) (lent : long t ≡ true) (formed : wellFormed 
   v = valid-held t s lent formed
 
   spread-all : (a : Addition) → Fits tables m a → storedAll (spread m t) (stateOf m) a ≡ spread (add m a) t
-  unfolding stateOf
-  spread-all a fits = λ i. record { literals = add-literals m v a fits t i; ends = add-ends m v a fits t i; sets = add-sets m v a fits t i; kinds = add-kinds m v a fits t i }
+  unfolding stateOf spread
+  spread-all a fits = λ i. record { literals = add-literals m v a fits t i; ends = add-ends m v a fits t i; sets = add-sets m v a fits t i; spare = t .spare; kinds = add-kinds m v a fits t i }
 
   pub added-all : (a : Addition) → Fits tables m a → storedAll t s a ≡ spread (add m a) t
   added-all a fits =
@@ -293,13 +294,13 @@ module _ (t : Tables) (s : State) (lent : long t ≡ true) (formed : wellFormed 
   -- ---- one clause
 
   one-form : (C : Clause) → s .clauses .0 < length (t .ends)
-      → tablesOf (stored (t .literals) (s .literals) C) (set (t .ends) (s .clauses .0) (s .literals + length C)) (t .sets) (t .kinds) ≡ storedAll t s (One C)
+      → rowsOf (stored (t .literals) (s .literals) C) (set (t .ends) (s .clauses .0) (s .literals + length C)) (t .sets) (t .spare) (t .kinds) ≡ storedAll t s (One C)
   unfolding flat endsFrom
   one-form C h =
       rw (append-nil C, stored-one (t .ends) (s .clauses .0) (s .literals + length C) h, stored-none (t .sets) (s .variables .0), stored-none (t .kinds) (s .variables .0))
 
   pub one-clause : (C : Clause) → Fits tables m (One C)
-      → Added t s (One C) (tablesOf (stored (t .literals) (s .literals) C) (set (t .ends) (s .clauses .0) (s .literals + length C)) (t .sets) (t .kinds)) (stepCounted (clauseEnded s (length C)))
+      → Added t s (One C) (rowsOf (stored (t .literals) (s .literals) C) (set (t .ends) (s .clauses .0) (s .literals + length C)) (t .sets) (t .spare) (t .kinds)) (stepCounted (clauseEnded s (length C)))
   one-clause C fits = record {
     tables = one-form C (omega (arith, long-is t lent .ends, room-one C fits .clauses-fit)) ∙ added-all (One C) fits;
     state = ap (λ (r : State). stepCounted (clauseEnded r (length C))) (sym (state-held t s lent formed)) ∙ state-one m v C;
@@ -308,9 +309,9 @@ module _ (t : Tables) (s : State) (lent : long t ≡ true) (formed : wellFormed 
   -- ---- two clauses and a variable
 
   two-form : (C D : Clause) (w : Set) → RoomFor s 2 (length C + length D) 1
-      → tablesOf (stored (stored (t .literals) (s .literals) C) (s .literals + length C) D)
+      → rowsOf (stored (stored (t .literals) (s .literals) C) (s .literals + length C) D)
       (set (set (t .ends) (s .clauses .0) (s .literals + length C)) (s .clauses .0 + 1) (s .literals + length C + length D))
-      (set (t .sets) (s .variables .0) w) (set (t .kinds) (s .variables .0) 3)
+      (set (t .sets) (s .variables .0) w) (t .spare) (set (t .kinds) (s .variables .0) 3)
       ≡ storedAll t s (Two C D w)
   unfolding flat endsFrom
   two-form C D w room =
@@ -329,9 +330,9 @@ module _ (t : Tables) (s : State) (lent : long t ≡ true) (formed : wellFormed 
       )
 
   pub two-clauses : (C D : Clause) (w : Set) → Fits tables m (Two C D w)
-      → Added t s (Two C D w) (tablesOf (stored (stored (t .literals) (s .literals) C) (s .literals + length C) D)
+      → Added t s (Two C D w) (rowsOf (stored (stored (t .literals) (s .literals) C) (s .literals + length C) D)
       (set (set (t .ends) (s .clauses .0) (s .literals + length C)) (s .clauses .0 + 1) (s .literals + length C + length D))
-      (set (t .sets) (s .variables .0) w) (set (t .kinds) (s .variables .0) 3))
+      (set (t .sets) (s .variables .0) w) (t .spare) (set (t .kinds) (s .variables .0) 3))
       (stepCounted (variableAdded (clauseEnded (clauseEnded s (length C)) (length D))))
   two-clauses C D w fits = record {
     tables = two-form C D w (room-two C D w fits) ∙ added-all (Two C D w) fits;

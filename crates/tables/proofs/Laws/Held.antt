@@ -85,6 +85,7 @@ module _ (t : Tables) (s : State) (L : Long t) (F : Formed t s) where
         literals = over-self (pos 0) literalLimit isZeroLiteral zero-literal-is (s .literals) (t .literals) (F .counts .literals) (L .literals) (F .zero-literals) i;
         ends = over-self 0 clauseLimit isZero zero-is (s .clauses .0) (t .ends) (F .counts .clauses) (L .ends) (F .zero-ends) i;
         sets = over-self 0 variableLimit isZero zero-is (s .variables .0) (t .sets) (F .counts .variables) (L .sets) (F .zero-sets) i;
+        spare = t .spare;
         kinds = over-self 0 variableLimit isZero zero-is (s .variables .0) (t .kinds) (F .counts .variables) (L .kinds) (F .zero-kinds) i;
       })
 

@@ -146,6 +146,7 @@ module _ (m : Model) (v : Valid tables m) (t : Tables) where
     literals = over-over (pos 0) literalLimit (flat (clauses n)) (flat (clauses m)) (t .literals) literals-fit i;
     ends = over-over 0 clauseLimit (endsFrom 0 (clauses n)) (endsFrom 0 (clauses m)) (t .ends) ends-fit i;
     sets = over-over 0 variableLimit (setRow n) (setRow m) (t .sets) sets-fit i;
+    spare = t .spare;
     kinds = over-over 0 variableLimit (kindRow n) (kindRow m) (t .kinds) kinds-fit i;
   }
 
@@ -166,6 +167,7 @@ module _ (m : Model) (v : Valid tables m) (t : Tables) where
     literals = over-drop (pos 0) literalLimit (flat (clauses m)) (t .literals) literals-fit;
     ends = over-drop 0 clauseLimit (endsFrom 0 (clauses m)) (t .ends) ends-fit;
     sets = over-drop 0 variableLimit (setRow m) (t .sets) sets-fit;
+    spare = refl;
     kinds = over-drop 0 variableLimit (kindRow m) (t .kinds) kinds-fit;
   }
 

@@ -2,19 +2,17 @@
 --     literalsLeft, literals-..      of one clause
 --     clausesLeft, clauses-..        of the clauses between their ends
 --     variablesLeft, variables-..    of the kinds and sets
---     one-shifted                    the lowest places as a word
 use mathlib.Core.Path.{_≡_, refl, ap, sym, _∙_}
 use mathlib.Core.Bool.{Bool, true, false, cond, _&&_, and-true, and-false, true≢false}
 use mathlib.Core.List.{List, [], _∷_}
-use Prim.Native.Nat.{ℕ, zero, suc, _+_, _-_, _*_, _%_, _^_, _≤_, _<_}
-use native.Mathlib.Nat.{one-mul, add-zero, zero-add, sub-zero, zero-sub}
+use Prim.Native.Nat.{ℕ, zero, suc, _+_, _-_, _≤_, _<_}
+use native.Mathlib.Nat.{add-zero, zero-add, sub-zero, zero-sub}
 use native.Mathlib.Numerals.{add-one, sub-one}
 use native.Mathlib.Omega.{arith}
 use borrow.Author.Tests.{ltb-true, ltb-false, le-leb, lt-leb, lt-ltb, le-ltb, eq-eqb, ne-eqb}
-use lib.Dec.{leb, ltb, eqb, lit<, eqb·suc-zero}
+use lib.Dec.{leb, ltb, eqb, eqb·suc-zero}
 use lib.IntN.{ℤ, pos, natAbs}
 use lib.ListN.{length, getD, drop, drop-of-length-le}
-use lib.Pow.{shl-exact}
 use lib.Seq.{drop-cons, take-nil}
 use Rattle.dqbf.specs.Limits.{widthLimit}
 use Rattle.dqbf.specs.Literal.{Clause}
@@ -319,8 +317,3 @@ module _ (kinds : List ℕ) (sets : List Set) (bound universals : ℕ) where
                 (and-left (bareIfUndeclared k s) _ (rw (kinds-front, sets-front) at (every-at _ a 4)), (rw (← below-left i bound) at stands, tt)),
               ),
             )
-
--- ---- the lowest places as a word
-
-pub one-shifted : (n : ℕ) → n < 64 → (1 * 2 ^ n) % 2 ^ 64 ≡ 2 ^ n
-one-shifted n h = shl-exact {a = 1} 1 n 64 (lit< tt) (omega arith) ∙ one-mul (2 ^ n)

@@ -19,10 +19,10 @@ use lib.ListN.{length, getD, drop, set, replicate, length-replicate, replicate-a
 use lib.Seq.{drop-cons, set-at}
 use Rattle.dqbf.specs.Limits.{clauseLimit, literalLimit, variableLimit}
 use Rattle.dqbf.specs.Literal.{same}
-use Rattle.dqbf.specs.Set.{Set}
 use Rattle.dqbf.specs.Model.{clauses}
 use Rattle.dqbf.proofs.Laws.Signed.{kept16}
 use Rattle.dqbf.proofs.Laws.Tests.{either}
+use Rattle.sets.specs.Words.{wordsEach, asSets, spareIn}
 use Rattle.tables.specs.Tables.{Tables, tablesOf}
 use Rattle.tables.specs.Spread.{flat, endsFrom, over, spread, kindRow, setRow, blank}
 use Rattle.tables.specs.WellFormed.{isZero, isZeroLiteral}
@@ -64,7 +64,7 @@ module _ {A : Type 0} (z : A) where
   cleared-all t t₀ size i h k e = let q : i ≡ size = omega arith in rw (e, q, sub-zero size)
 
 -- all four tables cleared
-pub cleared-tables : (t : Tables) {l : List ℤ} {e : List ℕ} {s : List Set} {k : List ℕ} → l ≡ over literalLimit (pos 0) [] (t .literals) → e ≡ over clauseLimit 0 [] (t .ends)
-    → s ≡ over variableLimit 0 [] (t .sets) → k ≡ over variableLimit 0 [] (t .kinds) → tablesOf l e s k ≡ spread blank t
+pub cleared-tables : (t : Tables) (w : List ℕ) {l : List ℤ} {e k : List ℕ} → l ≡ over literalLimit (pos 0) [] (t .literals) → e ≡ over clauseLimit 0 [] (t .ends)
+    → asSets wordsEach w ≡ over variableLimit 0 [] (t .sets) → spareIn wordsEach w ≡ t .spare → k ≡ over variableLimit 0 [] (t .kinds) → tablesOf l e w k ≡ spread blank t
 unfolding spread flat endsFrom clauses setRow kindRow
-cleared-tables t p q r w = λ i. record { literals = p i; ends = q i; sets = r i; kinds = w i }
+cleared-tables t w p q r u v = λ i. record { literals = p i; ends = q i; sets = r i; spare = u i; kinds = v i }

@@ -59,6 +59,7 @@ bare-spread v t low = λ i. record {
   literals = over literalLimit (pos 0) [] (t .literals);
   ends = over clauseLimit 0 [] (t .ends);
   sets = bare-row (λ x. 0) (λ x. refl) v (t .sets) low i;
+  spare = t .spare;
   kinds = bare-row (λ x. 0) (λ x. refl) v (t .kinds) low i;
 }
 
@@ -114,7 +115,7 @@ module _ {t : Tables} {r : Reader} {p : Progress} {now : Tables} (h : ReadSoFar 
         tables-empty : now ≡ spread (modelOf (bare v)) t
         tables-empty = h .tables ∙ ap (λ (x : Reader). spread (modelOf (x .formula)) t) (h .opened (phase-opening r (phase-is h) e)) ∙ sym (bare-spread v t low)
 
-        pub header-read : {s : State} → s ≡ emptyState v → LineRead t r (header v c) (record { progress = record { phase = 1; count = c; places = 0; state = s }; refusal = 0 }) now
+        pub header-read : {s : State} → s ≡ emptyState v → LineRead t r (header v c) (record { progress = record { phase = 1; count = c; state = s }; refusal = 0 }) now
         unfolding taken refusalOf progressOf phaseNumber wordOf universalsOf
         header-read q =
             line-taken passes (record {
@@ -122,7 +123,7 @@ module _ {t : Tables} {r : Reader} {p : Progress} {now : Tables} (h : ReadSoFar 
               sane = sane;
               opened = λ z. absurd (let o : _≡_ {A = ℕ} 0 1 = cc in omega arith);
               few = omega arith;
-              progress = λ i. record { phase = 1; count = c; places = 0; state = (q ∙ state-empty) i };
+              progress = λ i. record { phase = 1; count = c; state = (q ∙ state-empty) i };
               tables = tables-empty;
             })
 

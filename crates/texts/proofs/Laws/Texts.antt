@@ -46,7 +46,7 @@ read-start t lent cleared q = record {
   sane = start-sane;
   opened = λ e. refl;
   few = omega arith;
-  progress = q ∙ (λ i. record { phase = 0; count = 0; places = 0; state = (sym blank-state ∙ ap stateOf (sym start-blank)) i });
+  progress = q ∙ (λ i. record { phase = 0; count = 0; state = (sym blank-state ∙ ap stateOf (sym start-blank)) i });
   tables = cleared ∙ ap (λ m. spread m t) (sym start-blank);
 }
 

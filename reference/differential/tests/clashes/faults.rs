@@ -4,7 +4,7 @@ use std::collections::BTreeSet;
 
 use differential::compare::{compare, fields, Difference};
 use differential::generate::Scenarios;
-use differential::library::{Lean, Lent, Library, Shared};
+use differential::library::{Lean, Lent, Library};
 use differential::scenario::{Call, Scenario};
 
 use crate::answers::{answers, Answer, Before};
@@ -47,21 +47,7 @@ impl Library for Faulty {
         word((self.run)(&answer))
     }
 
-    fn show(&mut self, lent: Shared, clause: u32) -> u64 {
-        Lean.show(lent, clause)
-    }
-
-    fn clause(&mut self, lent: Shared, clause: u32) -> u64 {
-        Lean.clause(lent, clause)
-    }
-
-    fn variable(&mut self, lent: Shared, variable: u32) -> u64 {
-        Lean.variable(lent, variable)
-    }
-
-    fn write(&mut self, out: &mut [u8], lent: Shared) -> u64 {
-        Lean.write(out, lent)
-    }
+    differential::reads_as_lean!();
 }
 
 /// In more than 20 scenarios a library with the fault tells something else. The

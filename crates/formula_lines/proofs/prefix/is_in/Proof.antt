@@ -2,6 +2,7 @@
 use mathlib.Core.Path.{_∙_, ap}
 use borrow.Author.Needs.{needs}
 use Rattle.dqbf.specs.Set.{inside}
+use Rattle.sets.specs.Words.{asSet}
 use Rattle.formula_lines.specs.Working.{isIn}
 use Rattle.formula_lines.proofs.prefix.is_in.Statement.{statement}
 use Rattle.formula_lines.proofs.prefix.is_in.Tie as tie
@@ -14,7 +15,7 @@ inside-requires c κs = search needs
 
 returns : tie.Need-returns
 unfolding isIn
-returns c = c .inside .ensures ∙ ap (λ own. inside own (c .before .before .before .args .set)) (c .before .set-of .ensures)
+returns c = c .inside .ensures ∙ ap (λ own. inside own (asSet (c .before .before .before .args .set))) (c .before .set-of .ensures)
 
 pub is-in-spec : {M : Type 1} → statement M
 is-in-spec = tie.close (tie.spec set-of-requires inside-requires returns)

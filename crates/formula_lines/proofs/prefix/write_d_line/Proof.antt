@@ -4,6 +4,7 @@ use borrow.Author.Needs.{needs}
 use Rattle.dqbf.specs.Line.{digitsOf}
 use Rattle.dqbf.specs.Bytes.{bytes}
 use Rattle.words.specs.Listed.{listed}
+use Rattle.sets.specs.Words.{wordsEach, asSet, asSets}
 use Rattle.formula_lines.specs.Working.{membersIn}
 use Rattle.words.proofs.Laws.Listed.{d-text}
 use Rattle.words.proofs.Laws.Words.{withSpace}
@@ -19,7 +20,7 @@ unfolding bytes
 write-word-requires c κs =
     let start = c .before .before .before .before .before in
     let a = start .args in
-    let S = membersIn (a .names .now) (a .sets .now) (a .set) in
+    let S = membersIn (a .names .now) (asSets wordsEach (a .sets .now)) (asSet (a .set)) in
     fits-first (bytes "d ") (withSpace (digitsOf (a .variable)) ++ listed (map digitsOf S)) (rw (d-text (a .variable) S) at (start .pre))
 
 write-spaced-requires : tie.Need-write-spaced-requires
@@ -28,7 +29,7 @@ write-spaced-requires c κs =
     let at-write-word = c .before .before .before in
     let start = at-write-word .before .before .before .before .before .before in
     let a = start .args in
-    let S = membersIn (a .names .now) (a .sets .now) (a .set) in
+    let S = membersIn (a .names .now) (asSets wordsEach (a .sets .now)) (asSet (a .set)) in
     let first = withSpace (digitsOf (a .variable)) in
     let rest = listed (map digitsOf S) in
     fits-first first rest (fits-second (bytes "d ") (first ++ rest) (at-write-word .write-word .ensures) (rw (d-text (a .variable) S) at (start .pre)))
@@ -40,7 +41,7 @@ write-members-requires c κs =
     let at-write-word = at-write-spaced .before .before .before .before in
     let start = at-write-word .before .before .before .before .before .before in
     let a = start .args in
-    let S = membersIn (a .names .now) (a .sets .now) (a .set) in
+    let S = membersIn (a .names .now) (asSets wordsEach (a .sets .now)) (asSet (a .set)) in
     let first = withSpace (digitsOf (a .variable)) in
     let rest = listed (map digitsOf S) in
     let fits = fits-second (bytes "d ") (first ++ rest) (at-write-word .write-word .ensures) (rw (d-text (a .variable) S) at (start .pre)) in
@@ -56,7 +57,7 @@ returns c =
     let at-write-spaced = at-write-members .before .before .before .before in
     let at-write-word = at-write-spaced .before .before .before .before in
     let a = at-write-word .before .before .before .before .before .before .args in
-    rw (d-text (a .variable) (membersIn (a .names .now) (a .sets .now) (a .set))) (wrote-both (at-write-word .write-word .ensures) (wrote-both (at-write-spaced .write-spaced .ensures) (at-write-members .write-members .ensures)))
+    rw (d-text (a .variable) (membersIn (a .names .now) (asSets wordsEach (a .sets .now)) (asSet (a .set)))) (wrote-both (at-write-word .write-word .ensures) (wrote-both (at-write-spaced .write-spaced .ensures) (at-write-members .write-members .ensures)))
 
 pub write-d-line-spec : {M : Type 1} → statement M
 write-d-line-spec =

@@ -7,6 +7,7 @@ use borrow.Author.Needs.{needs}
 use lib.ListN.{length}
 use Rattle.dqbf.specs.Spelled.{isExistential, existentials}
 use Rattle.dqbf.specs.Spelling.{text}
+use Rattle.sets.specs.Words.{wordsEach, asSets}
 use Rattle.formula_lines.specs.Working.{declarations}
 use Rattle.formula_lines.proofs.Laws.Walks.{variables-walk, each-fits, each-next, each-passed, each-end}
 use Rattle.formula_lines.proofs.Laws.Prefix.{dTexts, dText, d-more, leftLines, d-line-is, existentials-start, existential-test}
@@ -15,7 +16,7 @@ use Rattle.formula_lines.proofs.prefix.write_d_lines.Statement.{stateme
 use Rattle.formula_lines.proofs.prefix.write_d_lines.Tie as tie
 
 abbrev Inv-loop : tie.InvT-loop
-Inv-loop out₀ at names kinds sets place₀ i₀ out place i = (i ≤ length kinds) × Writing (dTexts (declarations kinds sets) (existentials (declarations kinds sets))) at out₀ (leftLines kinds sets i) place out
+Inv-loop out₀ at names kinds sets place₀ i₀ out place i = (i ≤ length kinds) × Writing (dTexts (declarations kinds (asSets wordsEach sets)) (existentials (declarations kinds (asSets wordsEach sets)))) at out₀ (leftLines kinds (asSets wordsEach sets) i) place out
 
 abbrev μ-loop : tie.MeasureT-loop
 μ-loop out₀ at names kinds sets place₀ i₀ out place i = length kinds - i
@@ -26,11 +27,8 @@ loop-holds c = (search needs, existentials-start _ _ _ _)
 shared-slice-read-kind : tie.Need-shared-slice-read-kind Inv-loop μ-loop
 shared-slice-read-kind c = search needs
 
-mul-set : tie.Need-mul-set Inv-loop μ-loop
-mul-set c = search needs
-
-shared-slice-read-set : tie.Need-shared-slice-read-set Inv-loop μ-loop
-shared-slice-read-set c = search needs
+get-requires : tie.Need-get-requires Inv-loop μ-loop
+get-requires c κs = search needs
 
 add-i : tie.Need-add-i Inv-loop μ-loop
 add-i c = search needs
@@ -45,11 +43,11 @@ write-d-line-requires c κs =
     let at-loop = at-loop-test .before in
     let start = at-loop .before .before .before .before .before in
     let a = start .args in
-    let d = declarations (a .kinds .now) (a .sets .now) in
+    let d = declarations (a .kinds .now) (asSets wordsEach (a .sets .now)) in
     let fits =
     each-fits (variables-walk (length (a .kinds .now))) (isExistential d) (dTexts d) (dText d) (d-more d) (at-loop .loop .i) (at-loop .loop .inv .1) (at-loop-test .loop-test .taken)
-    (existential-test (a .kinds .now) (a .sets .now) (at-loop .loop .i) ∙ eq-eqb _ _ (at-if1 .if1 .taken)) (start .pre .0) in
-    rw (d-line-is (a .kinds .now) (a .sets .now) (start .pre .1) (at-loop .loop .i)) at fits
+    (existential-test (a .kinds .now) (asSets wordsEach (a .sets .now)) (at-loop .loop .i) ∙ eq-eqb _ _ (at-if1 .if1 .taken)) (start .pre .0) in
+    rw (d-line-is (a .kinds .now) (asSets wordsEach (a .sets .now)) (start .pre .1) (at-loop .loop .i), ← (at-if1 .before .get .ensures)) at fits
 
 loop-less : tie.Need-loop-less Inv-loop μ-loop
 loop-less c = search needs
@@ -62,11 +60,11 @@ loop-again c =
     let at-loop = at-loop-test .before in
     let start = at-loop .before .before .before .before .before in
     let a = start .args in
-    let d = declarations (a .kinds .now) (a .sets .now) in (
+    let d = declarations (a .kinds .now) (asSets wordsEach (a .sets .now)) in (
       omega arith,
       each-next (variables-walk (length (a .kinds .now))) (isExistential d) (dTexts d) (dText d) (d-more d) (at-loop .loop .i) (at-loop .loop .inv .1) (at-loop-test .loop-test .taken)
-          (existential-test (a .kinds .now) (a .sets .now) (at-loop .loop .i) ∙ eq-eqb _ _ (at-if1 .if1 .taken))
-          (rw (← (d-line-is (a .kinds .now) (a .sets .now) (start .pre .1) (at-loop .loop .i))) at (at-write-d-line .write-d-line .ensures)),
+          (existential-test (a .kinds .now) (asSets wordsEach (a .sets .now)) (at-loop .loop .i) ∙ eq-eqb _ _ (at-if1 .if1 .taken))
+          (rw (at-if1 .before .get .ensures, ← (d-line-is (a .kinds .now) (asSets wordsEach (a .sets .now)) (start .pre .1) (at-loop .loop .i))) at (at-write-d-line .write-d-line .ensures)),
     )
 
 loop-less-2 : tie.Need-loop-less-2 Inv-loop μ-loop
@@ -77,10 +75,10 @@ loop-again-2 c =
     let at-loop-test = c .before .before .before in
     let at-loop = at-loop-test .before in
     let a = at-loop .before .before .before .before .before .args in
-    let d = declarations (a .kinds .now) (a .sets .now) in (
+    let d = declarations (a .kinds .now) (asSets wordsEach (a .sets .now)) in (
       omega arith,
       each-passed (variables-walk (length (a .kinds .now))) (isExistential d) (dTexts d) (dText d) (d-more d) (at-loop .loop .i) (at-loop .loop .inv .1) (at-loop-test .loop-test .taken)
-          (existential-test (a .kinds .now) (a .sets .now) (at-loop .loop .i) ∙ ne-eqb _ _ (c .if1 .left)),
+          (existential-test (a .kinds .now) (asSets wordsEach (a .sets .now)) (at-loop .loop .i) ∙ ne-eqb _ _ (c .if1 .left)),
     )
 
 same-length : tie.Need-same-length Inv-loop μ-loop
@@ -91,7 +89,7 @@ unfolding text
 returns c =
     let at-loop = c .before in
     let a = at-loop .before .before .before .before .before .args in
-    let d = declarations (a .kinds .now) (a .sets .now) in
+    let d = declarations (a .kinds .now) (asSets wordsEach (a .sets .now)) in
     writing-done (each-end (variables-walk (length (a .kinds .now))) (isExistential d) (dTexts d) (dText d) (d-more d) (at-loop .loop .i) (at-loop .loop .inv .1) (c .loop-test .left))
 
 pub write-d-lines-spec : {M : Type 1} → statement M
@@ -102,8 +100,7 @@ write-d-lines-spec =
     μ-loop
     loop-holds
     shared-slice-read-kind
-    mul-set
-    shared-slice-read-set
+    get-requires
     add-i
     cast-write-d-line
     write-d-line-requires

@@ -5,6 +5,7 @@ use native.Mathlib.Omega.{arith}
 use borrow.Author.Needs.{needs}
 use lib.ListN.{length, drop}
 use Rattle.dqbf.specs.Spelled.{select}
+use Rattle.sets.specs.Words.{wordsEach, asSet, asSets}
 use Rattle.formula_lines.specs.Working.{isIn, membersIn}
 use Rattle.formula_lines.proofs.Laws.Walks.{list-walk, each-fits, each-next, each-passed, each-end, closing-fits, closing-done}
 use Rattle.formula_lines.proofs.Laws.Prefix.{numberTexts, numberText, number-more, members-start}
@@ -13,7 +14,7 @@ use Rattle.formula_lines.proofs.prefix.write_members.Statement.{stateme
 use Rattle.formula_lines.proofs.prefix.write_members.Tie as tie
 
 abbrev Inv-loop : tie.InvT-loop
-Inv-loop out₀ at names sets set place₀ i₀ out place i = (i ≤ length names) × Writing (numberTexts (membersIn names sets set)) at out₀ (numberTexts (select (isIn sets set) (drop i names))) place out
+Inv-loop out₀ at names sets set place₀ i₀ out place i = (i ≤ length names) × Writing (numberTexts (membersIn names (asSets wordsEach sets) (asSet set))) at out₀ (numberTexts (select (isIn (asSets wordsEach sets) (asSet set)) (drop i names))) place out
 
 abbrev μ-loop : tie.MeasureT-loop
 μ-loop out₀ at names sets set place₀ i₀ out place i = length names - i
@@ -40,7 +41,7 @@ write-spaced-requires c κs =
     let at-loop = at-loop-test .before in
     let start = at-loop .before .before .before .before in
     let a = start .args in
-    each-fits (list-walk (a .names .now)) (isIn (a .sets .now) (a .set)) numberTexts numberText number-more (at-loop .loop .i) (at-loop .loop .inv .1) (at-loop-test .loop-test .taken)
+    each-fits (list-walk (a .names .now)) (isIn (asSets wordsEach (a .sets .now)) (asSet (a .set))) numberTexts numberText number-more (at-loop .loop .i) (at-loop .loop .inv .1) (at-loop-test .loop-test .taken)
     (sym (at-if1 .before .is-in .ensures) ∙ at-if1 .if1 .taken) (start .pre)
 
 loop-less : tie.Need-loop-less Inv-loop μ-loop
@@ -54,7 +55,7 @@ loop-again c =
     let at-loop = at-loop-test .before in
     let a = at-loop .before .before .before .before .args in (
       omega arith,
-      each-next (list-walk (a .names .now)) (isIn (a .sets .now) (a .set)) numberTexts numberText number-more (at-loop .loop .i) (at-loop .loop .inv .1) (at-loop-test .loop-test .taken)
+      each-next (list-walk (a .names .now)) (isIn (asSets wordsEach (a .sets .now)) (asSet (a .set))) numberTexts numberText number-more (at-loop .loop .i) (at-loop .loop .inv .1) (at-loop-test .loop-test .taken)
           (sym (at-if1 .before .is-in .ensures) ∙ at-if1 .if1 .taken) (at-write-spaced .write-spaced .ensures),
     )
 
@@ -67,7 +68,7 @@ loop-again-2 c =
     let at-loop = at-loop-test .before in
     let a = at-loop .before .before .before .before .args in (
       omega arith,
-      each-passed (list-walk (a .names .now)) (isIn (a .sets .now) (a .set)) numberTexts numberText number-more (at-loop .loop .i) (at-loop .loop .inv .1) (at-loop-test .loop-test .taken)
+      each-passed (list-walk (a .names .now)) (isIn (asSets wordsEach (a .sets .now)) (asSet (a .set))) numberTexts numberText number-more (at-loop .loop .i) (at-loop .loop .inv .1) (at-loop-test .loop-test .taken)
           (sym (c .before .is-in .ensures) ∙ c .if1 .left),
     )
 
@@ -77,7 +78,7 @@ write-closing-requires c κs =
     let at-loop = at-loop-test .before in
     let start = at-loop .before .before .before .before in
     let a = start .args in
-    closing-fits (each-end (list-walk (a .names .now)) (isIn (a .sets .now) (a .set)) numberTexts numberText number-more (at-loop .loop .i) (at-loop .loop .inv .1) (at-loop-test .loop-test .left)) (start .pre)
+    closing-fits (each-end (list-walk (a .names .now)) (isIn (asSets wordsEach (a .sets .now)) (asSet (a .set))) numberTexts numberText number-more (at-loop .loop .i) (at-loop .loop .inv .1) (at-loop-test .loop-test .left)) (start .pre)
 
 same-length : tie.Need-same-length Inv-loop μ-loop
 same-length c =
@@ -85,7 +86,7 @@ same-length c =
     let at-loop-test = at-write-closing .before .before in
     let at-loop = at-loop-test .before in
     let a = at-loop .before .before .before .before .args in
-    wrote-same (closing-done (each-end (list-walk (a .names .now)) (isIn (a .sets .now) (a .set)) numberTexts numberText number-more (at-loop .loop .i) (at-loop .loop .inv .1) (at-loop-test .loop-test .left)) (at-write-closing .write-closing .ensures))
+    wrote-same (closing-done (each-end (list-walk (a .names .now)) (isIn (asSets wordsEach (a .sets .now)) (asSet (a .set))) numberTexts numberText number-more (at-loop .loop .i) (at-loop .loop .inv .1) (at-loop-test .loop-test .left)) (at-write-closing .write-closing .ensures))
 
 returns : tie.Need-returns Inv-loop μ-loop
 returns c =
@@ -93,7 +94,7 @@ returns c =
     let at-loop-test = at-write-closing .before .before in
     let at-loop = at-loop-test .before in
     let a = at-loop .before .before .before .before .args in
-    closing-done (each-end (list-walk (a .names .now)) (isIn (a .sets .now) (a .set)) numberTexts numberText number-more (at-loop .loop .i) (at-loop .loop .inv .1) (at-loop-test .loop-test .left)) (at-write-closing .write-closing .ensures)
+    closing-done (each-end (list-walk (a .names .now)) (isIn (asSets wordsEach (a .sets .now)) (asSet (a .set))) numberTexts numberText number-more (at-loop .loop .i) (at-loop .loop .inv .1) (at-loop-test .loop-test .left)) (at-write-closing .write-closing .ensures)
 
 pub write-members-spec : {M : Type 1} → statement M
 write-members-spec =

@@ -15,7 +15,9 @@ returns : tie.Need-returns
 returns c = λ t r l e h. rw (c .refused .ensures) (e-late h (c .before .if1 .taken) _)
 
 declare-all-requires : tie.Need-declare-all-requires
-declare-all-requires c κs = (c .before .before .before .before .before .before .before .pre .0, c .before .before .before .before .before .before .before .pre .1, c .before .before .before .before .before .before .before .pre .2, λ u. absurd (false≢true u))
+declare-all-requires c κs =
+    let start = c .before .before .before .before .before .before .before in
+    (start .pre .0, start .pre .1, start .pre .2, λ u. absurd (false≢true u), start .pre .3)
 
 same-length : tie.Need-same-length
 same-length c = c .before .before .before .before .declare-all .kept .1 .1 .1 .0
@@ -24,7 +26,10 @@ same-length-2 : tie.Need-same-length-2
 same-length-2 c = c .before .before .before .before .declare-all .kept .1 .1 .1 .1 .0
 
 returns-2 : tie.Need-returns-2
-returns-2 c = λ t r l e h. e-read h (c .before .before .before .before .before .before .before .if1 .left) _ (c .before .before .before .before .declare-all .ensures t r l e h)
+returns-2 c =
+    let at-declare-all = c .before .before .before .before in
+    let at-if1 = at-declare-all .before .before .before in
+    λ t r l e h. e-read h (at-if1 .if1 .left) _ (at-declare-all .declare-all .ensures t r l e h)
 
 pub existential-line-spec : {M : Type 1} → statement M
 existential-line-spec =

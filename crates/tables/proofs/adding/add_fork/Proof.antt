@@ -2,6 +2,7 @@
 use mathlib.Core.Path.{_∙_}
 use native.Mathlib.Omega.{arith}
 use borrow.Author.Needs.{needs}
+use Rattle.sets.specs.Words.{wordsEach, asSet, asSets}
 use Rattle.tables.proofs.Laws.Adding.{variables-kept, room-next, room-variable, fork-steps, fork-state, fork-ends, fork-entry}
 use Rattle.tables.proofs.adding.add_fork.Statement.{statement}
 use Rattle.tables.proofs.adding.add_fork.Tie as tie
@@ -55,8 +56,9 @@ returns c =
     let g = at-add-variable .add-variable .ensures in (
       fork-state _ _ _ (e .0) (f .0) (g .0) (c .count-step .ensures),
       fork-ends _ _ _ (e .0) (f .0) (g .0) (a .ends .now) (e .1) (f .1),
-      fork-entry _ _ _ (e .0) (f .0) (g .0) (a .sets .now) (a .set) (g .1),
-      fork-entry _ _ _ (e .0) (f .0) (g .0) (a .kinds .now) 3 (g .2),
+      fork-entry _ _ _ (e .0) (f .0) (g .0) (asSets wordsEach (a .sets .now)) (asSet (a .set)) (g .1),
+      g .2,
+      fork-entry _ _ _ (e .0) (f .0) (g .0) (a .kinds .now) 3 (g .3),
     )
 
 pub add-fork-spec : {M : Type 1} → statement M

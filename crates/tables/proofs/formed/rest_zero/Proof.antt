@@ -1,10 +1,12 @@
 -- `tables::formed::rest_zero` meets its contract.
 use mathlib.Core.List.{[], _∷_}
 use mathlib.Core.Path.{sym, _∙_}
+use native.Mathlib.Omega.{arith}
 use borrow.Author.Needs.{needs}
 use borrow.Author.Tests.{not-true, not-false}
 use Rattle.tables.specs.WellFormed.{restZero}
 use Rattle.tables.proofs.Laws.Formed.{long-is, counts-is}
+use Rattle.tables.proofs.Laws.Lent.{long-words, zeros-told}
 use Rattle.tables.proofs.Laws.Tests.{every-fails, every-last}
 use Rattle.tables.proofs.formed.rest_zero.Statement.{statement}
 use Rattle.tables.proofs.formed.rest_zero.Tie as tie
@@ -56,30 +58,40 @@ returns-2 : tie.Need-returns-2
 unfolding restZero
 returns-2 c = sym (every-fails _ 1 (sym (c .before .zero-ends .ensures) ∙ not-true _ (c .if2 .taken)))
 
+mul-word-count : tie.Need-mul-word-count
+mul-word-count c =
+    let start = c .before .before .before .before .before .before .before .before .before .before .before .before .before .before in
+    omega (arith, counts-is _ (start .pre .1) .variables)
+
 mul-zero-sets : tie.Need-mul-zero-sets
-mul-zero-sets c = search needs
+mul-zero-sets c =
+    let start = c .before .before .before .before .before .before .before .before .before .before .before .before .before .before in
+    omega (arith, counts-is _ (start .pre .1) .variables)
 
 sub-zero-sets : tie.Need-sub-zero-sets
 sub-zero-sets c =
     let start = c .before .before .before .before .before .before .before .before .before .before .before .before .before .before in
-    counts-is _ (start .pre .1) .variables
+    omega (arith, counts-is _ (start .pre .1) .variables)
 
 part-zero-sets-start : tie.Need-part-zero-sets-start
 part-zero-sets-start c =
     let start = c .before .before .before .before .before .before .before .before .before .before .before .before .before .before in
-    counts-is _ (start .pre .1) .variables
+    omega (arith, counts-is _ (start .pre .1) .variables)
 
 part-zero-sets-end : tie.Need-part-zero-sets-end
 part-zero-sets-end c =
     let start = c .before .before .before .before .before .before .before .before .before .before .before .before .before .before in
-    long-is _ (start .pre .0) .sets
+    long-words _ (long-is _ (start .pre .0) .sets)
 
 zero-sets-requires : tie.Need-zero-sets-requires
 zero-sets-requires c κs = search needs
 
 returns-3 : tie.Need-returns-3
 unfolding restZero
-returns-3 c = sym (every-fails _ 2 (sym (c .before .zero-sets .ensures) ∙ not-true _ (c .if3 .taken)))
+returns-3 c =
+    let start = c .before .before .before .before .before .before .before .before .before .before .before .before .before .before .before .before .before in
+    let told = zeros-told (start .args .sets .now) (start .args .state .variables .0) (counts-is _ (start .pre .1) .variables) (long-words _ (long-is _ (start .pre .0) .sets)) in
+    sym (every-fails _ 2 (sym told ∙ sym (c .before .zero-sets .ensures) ∙ not-true _ (c .if3 .taken)))
 
 sub-zero-kinds : tie.Need-sub-zero-kinds
 sub-zero-kinds c =
@@ -109,7 +121,9 @@ returns-4 c =
     let at-if1 = at-zero-ends .before .before in
     let at-zero-literals = at-if1 .before in
     let rest = sym (at-zero-literals .zero-literals .ensures) ∙ not-false _ (at-if1 .if1 .left) in
-    c .zero-kinds .ensures ∙ every-last (_ ∷ _ ∷ _ ∷ []) _ (rest, (sym (at-zero-ends .zero-ends .ensures) ∙ not-false _ (at-if2 .if2 .left), (sym (at-zero-sets .zero-sets .ensures) ∙ not-false _ (at-if3 .if3 .left), tt)))
+    let start = at-zero-literals .before .before .before .before .before .before .before .before .before .before in
+    let told = zeros-told (start .args .sets .now) (start .args .state .variables .0) (counts-is _ (start .pre .1) .variables) (long-words _ (long-is _ (start .pre .0) .sets)) in
+    c .zero-kinds .ensures ∙ every-last (_ ∷ _ ∷ _ ∷ []) _ (rest, (sym (at-zero-ends .zero-ends .ensures) ∙ not-false _ (at-if2 .if2 .left), (sym told ∙ sym (at-zero-sets .zero-sets .ensures) ∙ not-false _ (at-if3 .if3 .left), tt)))
 
 pub rest-zero-spec : {M : Type 1} → statement M
 rest-zero-spec =
@@ -130,6 +144,7 @@ rest-zero-spec =
     part-zero-ends-end
     zero-ends-requires
     returns-2
+    mul-word-count
     mul-zero-sets
     sub-zero-sets
     part-zero-sets-start

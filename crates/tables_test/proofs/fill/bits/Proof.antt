@@ -16,6 +16,12 @@ loop-holds c = search needs
 cast-entries : tie.Need-cast-entries Inv-loop μ-loop
 cast-entries c = search needs
 
+mul-word : tie.Need-mul-word Inv-loop μ-loop
+mul-word c = search needs
+
+add-word : tie.Need-add-word Inv-loop μ-loop
+add-word c = search needs
+
 cast-entries-2 : tie.Need-cast-entries-2 Inv-loop μ-loop
 cast-entries-2 c = search needs
 
@@ -47,6 +53,8 @@ bits-spec =
     Inv-loop
     μ-loop
     loop-holds
+    mul-word
+    add-word
     cast-entries
     cast-entries-2
     shl-entries

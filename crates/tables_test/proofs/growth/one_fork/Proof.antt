@@ -1,4 +1,5 @@
 -- `tables_test::growth::one_fork` meets its contract.
+use Rattle.tables.proofs.Laws.Lent.{words-long}
 use mathlib.Core.Path.{sym, _∙_}
 use borrow.Author.Needs.{needs}
 use Rattle.tables.proofs.Laws.Adding.{room-is}
@@ -34,7 +35,7 @@ add-fork-requires c κs =
     let at-if2 = at-if3 .before in
     let at-if1 = at-if2 .before in
     let at-is-full = at-if1 .before in
-    (room-is _ _ _ _ (sym (at-is-full .is-full .ensures) ∙ at-if1 .if1 .left), at-if2 .if2 .left, at-if3 .if3 .left, at-if4 .if4 .left, at-if5 .if5 .left)
+    (room-is _ _ _ _ (sym (at-is-full .is-full .ensures) ∙ at-if1 .if1 .left), at-if2 .if2 .left, words-long _ (at-if3 .if3 .left), at-if4 .if4 .left, at-if5 .if5 .left)
 
 same-length : tie.Need-same-length
 same-length c = search needs

@@ -54,7 +54,7 @@ slice-aggregate-existential-line : tie.Need-slice-aggregate-existential-line
 slice-aggregate-existential-line c = sym (length-take-le _ (c .before .before .before .before .before .before .form .last .1 .0) (inside-existentials (c .before .before .before .before .before .before .before .before .before .before .before .before .before .before .args .line .now) _ _ (c .before .before .before .before .before .before .form .ensures) (c .before .before .shape3 .given .1)))
 
 existential-line-requires : tie.Need-existential-line-requires
-existential-line-requires c κs = (positive-existentials (c .before .before .before .before .before .before .before .before .before .before .before .before .before .before .before .before .args .line .now) _ _ (c .before .before .before .before .before .before .before .before .form .ensures) (c .before .before .before .before .shape3 .given .1), omega (arith, c .before .before .before .before .before .before .before .before .before .before .before .before .before .before .before .before .pre .1 .bound), omega (arith, c .before .before .before .before .before .before .before .before .before .before .before .before .before .before .before .before .pre .1 .bound))
+existential-line-requires c κs = (positive-existentials (c .before .before .before .before .before .before .before .before .before .before .before .before .before .before .before .before .args .line .now) _ _ (c .before .before .before .before .before .before .before .before .form .ensures) (c .before .before .before .before .shape3 .given .1), omega (arith, c .before .before .before .before .before .before .before .before .before .before .before .before .before .before .before .before .pre .1 .bound), omega (arith, c .before .before .before .before .before .before .before .before .before .before .before .before .before .before .before .before .pre .1 .bound), c .before .before .before .before .before .before .before .before .before .before .before .before .before .before .before .before .pre .1 .universals)
 
 enum-known-shape-4 : tie.Need-enum-known-shape-4
 enum-known-shape-4 c = search needs

@@ -20,7 +20,7 @@ use Rattle.texts.proofs.reading.end_of_text.Reads as end-of-text-reads
 use Rattle.tokens.proofs.text.line_length.Reads as line-length-reads
 
 abbrev Inv-loop : tie.InvT-loop
-Inv-loop text literals₀ ends₀ sets₀ kinds₀ numbers₀ known₀ progress₀ line₀ at₀ literals ends sets kinds numbers known progress line at = (at ≤ length text) × (line ≤ at) × (length literals ≡ length literals₀) × (length ends ≡ length ends₀) × (length sets ≡ length sets₀) × (length kinds ≡ length kinds₀) × (length numbers ≡ 16384) × (length known ≡ 65) × Reached (readFrom (pieces lineFeed text) 0 start) (tablesOf literals₀ ends₀ sets₀ kinds₀) text at line progress known (tablesOf literals ends sets kinds)
+Inv-loop text literals₀ ends₀ sets₀ kinds₀ numbers₀ known₀ progress₀ line₀ at₀ literals ends sets kinds numbers known progress line at = (at ≤ length text) × (line ≤ at) × (length literals ≡ length literals₀) × (length ends ≡ length ends₀) × (length sets ≡ length sets₀) × (length kinds ≡ length kinds₀) × (length numbers ≡ 16384) × (length known ≡ 257) × Reached (readFrom (pieces lineFeed text) 0 start) (tablesOf literals₀ ends₀ sets₀ kinds₀) text at line progress known (tablesOf literals ends sets kinds)
 
 abbrev μ-loop : tie.MeasureT-loop
 μ-loop text literals₀ ends₀ sets₀ kinds₀ numbers₀ known₀ progress₀ line₀ at₀ literals ends sets kinds numbers known progress line at = length text - at

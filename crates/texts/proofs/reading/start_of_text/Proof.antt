@@ -9,7 +9,7 @@ empty-state-requires : tie.Need-empty-state-requires
 empty-state-requires c κs = search needs
 
 returns : tie.Need-returns
-returns c = λ i. record { phase = 0; count = 0; places = 0; state = (c .empty-state .ensures) i }
+returns c = λ i. record { phase = 0; count = 0; state = (c .empty-state .ensures) i }
 
 pub start-of-text-spec : {M : Type 1} → statement M
 start-of-text-spec = tie.close (tie.spec empty-state-requires returns)

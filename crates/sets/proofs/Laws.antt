@@ -1,0 +1,4 @@
+pub mod Words
+pub mod Sets
+pub mod Four
+pub mod Tables
