@@ -1,5 +1,5 @@
 // A driver in C++: driver FORMULA STEPS loads the formula, runs the steps, prints the verdict's line, then each clause and each variable, then the formula as
-// tidy text, then what it is decided to be.
+// tidy text.
 #include "../include/kefthrun.h"
 
 #include <cstdio>
@@ -49,9 +49,5 @@ int main(int argc, char **argv) {
     }
     const std::string tidy = checker.text();
     std::printf("text, %zu bytes:\n%s", tidy.size(), tidy.c_str());
-    const kefthrun::Result decided = checker.decide();
-    if (decided.tag == KEFTHRUN_DECIDE_TRUE) std::printf("decided: true %u\n", decided.first);
-    if (decided.tag == KEFTHRUN_DECIDE_FALSE) std::printf("decided: false\n");
-    if (decided.tag == KEFTHRUN_DECIDE_REFUSED) std::printf("decided: refused %u\n", decided.first);
     return 0;
 }

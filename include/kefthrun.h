@@ -9,11 +9,10 @@
  * two buffers of one call share a byte. Nothing else writes to a buffer while a call runs. The class kefthrun::Checker sees to the first three.
  *
  * Results. A result has four 16-bit fields, the lowest first: the case, which is never 0, and up to three values; a field without a value is 0. Too few bytes in
- * a buffer is refusal 1; nothing is changed then, except that a load zeroes a state of 16 bytes or more. An output shorter than its text is refusal 30. A
- * formula that is too large to be decided is refusal 31.
+ * a buffer is refusal 1; nothing is changed then, except that a load zeroes a state of 16 bytes or more. An output shorter than its text is refusal 30.
  *
  * Stack. No call uses the heap or recursion. A load was measured to use 104,928 bytes of stack, a run 38,416, a question or a shown clause 38,064, a write
- * 39,232, a decision 47,792 (docs/PERFORMANCE.md): give a thread at least 160 KB of stack. */
+ * 39,232 (docs/PERFORMANCE.md): give a thread at least 160 KB of stack. */
 #ifndef KEFTHRUN_H
 #define KEFTHRUN_H
 
@@ -21,7 +20,7 @@
 #include <stdint.h>
 
 /* The number of this interface: one higher with each change of a function, a buffer's size or the fields of a result. */
-#define KEFTHRUN_INTERFACE 5u
+#define KEFTHRUN_INTERFACE 4u
 
 /* Sizes of the buffers, in bytes. */
 enum {
@@ -33,16 +32,15 @@ enum {
     KEFTHRUN_TIDY_BYTES = 311296 /* an output of this many bytes is long enough for every formula */
 };
 
-/* The cases of a result: of a load, of a run, of a question, a shown clause or a write, of a decision. */
+/* The cases of a result: of a load, of a run, of a question, a shown clause or a write. */
 enum { KEFTHRUN_LOAD_ACCEPTED = 1, KEFTHRUN_LOAD_REFUSED = 4 };
 enum { KEFTHRUN_RUN_REFUTED = 1, KEFTHRUN_RUN_OPEN = 2, KEFTHRUN_RUN_BAD = 3 };
 enum { KEFTHRUN_ANSWERED = 1, KEFTHRUN_REFUSED = 2 };
-enum { KEFTHRUN_DECIDE_TRUE = 1, KEFTHRUN_DECIDE_FALSE = 2, KEFTHRUN_DECIDE_REFUSED = 3 };
 
 /* The kinds of variables. */
 enum { KEFTHRUN_KIND_UNDECLARED = 0, KEFTHRUN_KIND_UNIVERSAL = 1, KEFTHRUN_KIND_EXISTENTIAL = 2, KEFTHRUN_KIND_FORK = 3 };
 
-/* The numbers of refusal: of any call, of a formula, of a step or a list of steps (21 and 22 also of a question), of a write, of a decision. */
+/* The numbers of refusal: of any call, of a formula, of a step or a list of steps (21 and 22 also of a question), of a write. */
 enum {
     KEFTHRUN_TABLE_TOO_SHORT = 1, /* a table is lent too short */
     KEFTHRUN_NOT_WELL_FORMED = 2, /* the tables are not well formed */
@@ -65,9 +63,7 @@ enum {
     KEFTHRUN_MASKS = 28,                      /* the masks do not make the clause */
     KEFTHRUN_COMPARABLE = 29,                 /* one part's set contains the other's */
 
-    KEFTHRUN_OUTPUT_TOO_SHORT = 30, /* the output is lent shorter than the text */
-
-    KEFTHRUN_TOO_LARGE = 31 /* the formula is above the limits of a decision: 4 universals, function tables of 16 bits together */
+    KEFTHRUN_OUTPUT_TOO_SHORT = 30 /* the output is lent shorter than the text */
 };
 
 #ifdef __cplusplus
@@ -103,12 +99,6 @@ uint64_t kefthrun_variable(const uint8_t *literals, size_t literals_length, cons
  * bits and its high 16 bits (kefthrun_length); or refused with a number, and the output is as it was. Nothing else is written, and no 0 behind the text. */
 uint64_t kefthrun_write(uint8_t *out, size_t out_length, const uint8_t *literals, size_t literals_length, const uint8_t *ends, size_t ends_length,
                         const uint8_t *sets, size_t sets_length, const uint8_t *kinds, size_t kinds_length, const uint8_t *state, size_t state_length);
-
-/* Decides a small formula by trying every family of functions; derived clauses and fork variables do not count. True with the number of the first family that
- * makes every clause true at every setting of the universals; false if none does; or refused with a number. A family's number has the function tables of all
- * declared existentials one behind the other, variables ascending, the settings of each set ascending as set words, the first bit least, 1 for true. */
-uint64_t kefthrun_decide(const uint8_t *literals, size_t literals_length, const uint8_t *ends, size_t ends_length, const uint8_t *sets, size_t sets_length,
-                         const uint8_t *kinds, size_t kinds_length, const uint8_t *state, size_t state_length);
 
 #ifdef __cplusplus
 }
@@ -186,11 +176,6 @@ public:
     Result write(uint8_t *out, size_t length) const {
         return Result(kefthrun_write(some(out, length), length, literals_.data(), literals_.size(), ends_.data(), ends_.size(), sets_.data(), sets_.size(),
                                      kinds_.data(), kinds_.size(), state_.data(), state_.size()));
-    }
-    /* What the formula is; before a load and after a refused one the empty formula is true. */
-    Result decide() const {
-        return Result(kefthrun_decide(literals_.data(), literals_.size(), ends_.data(), ends_.size(), sets_.data(), sets_.size(), kinds_.data(),
-                                      kinds_.size(), state_.data(), state_.size()));
     }
     /* The tidy text, copied; before a load and after a refused one that of the empty formula. Nothing if the tables are refused. */
     std::string text() const {

@@ -72,10 +72,6 @@ struct Buffers {
         return kefthrun_write(out.data(), out.size(), all[0].data(), all[0].size(), all[1].data(), all[1].size(), all[2].data(), all[2].size(),
                               all[3].data(), all[3].size(), all[4].data(), all[4].size());
     }
-    uint64_t decide() {
-        return kefthrun_decide(all[0].data(), all[0].size(), all[1].data(), all[1].size(), all[2].data(), all[2].size(), all[3].data(), all[3].size(),
-                               all[4].data(), all[4].size());
-    }
     std::vector<std::vector<uint8_t>> bytes() {
         std::vector<std::vector<uint8_t>> copied;
         for (Guarded &g : all) copied.push_back(g.bytes());
@@ -196,7 +192,7 @@ static const std::string wide_formula = "p cnf 258 2\na " + numbers(1, 256) + "0
 
 // Sets of four words.
 static void wide_sets() {
-    static_assert(KEFTHRUN_SET_BYTES == 16384 && KEFTHRUN_TIDY_BYTES == 311296, "Note 6");
+    static_assert(KEFTHRUN_SET_BYTES == 16384 && KEFTHRUN_TIDY_BYTES == 311296 && KEFTHRUN_INTERFACE == 4, "Note 6");
     Buffers b;
     expect("256 universals", b.load(wide_formula) == packed(1, 0, 0));
     for (unsigned x : {1u, 64u, 65u, 128u, 129u, 192u, 193u, 256u}) expect("a universal's bit", is_single(b, x, x - 1));
@@ -230,50 +226,6 @@ static void set_lengths() {
         Buffers b(2, -less);
         expect("too short", b.load(wide_formula) == packed(4, 0, 1) && b[2].fresh_from(0));
     }
-}
-
-// A decision answers with this case and value, and changes nothing.
-static void decided(Buffers &b, unsigned tag, unsigned value) {
-    const std::vector<std::vector<uint8_t>> before = b.bytes();
-    const uint64_t told = b.decide();
-    expect("a decision", told == packed(tag, value, 0));
-    expect("a decision changes nothing", b.bytes() == before && b.guards_stand());
-}
-
-static void decided(const std::string &text, unsigned tag, unsigned value) {
-    Buffers b;
-    expect("accepted", b.load(text) == packed(1, 0, 0));
-    decided(b, tag, value);
-}
-
-static void decisions() {
-    static_assert(KEFTHRUN_INTERFACE == 5 && KEFTHRUN_TOO_LARGE == 31, "Note 8");
-    static_assert(KEFTHRUN_DECIDE_TRUE == 1 && KEFTHRUN_DECIDE_FALSE == 2 && KEFTHRUN_DECIDE_REFUSED == 3, "Note 8");
-    decided("p cnf 0 0\n", KEFTHRUN_DECIDE_TRUE, 0);
-    decided("p cnf 0 1\n0\n", KEFTHRUN_DECIDE_FALSE, 0);
-    decided(formula, KEFTHRUN_DECIDE_FALSE, 0);
-    decided("p cnf 2 2\na 1 0\nd 2 1 0\n1 2 0\n-1 -2 0\n", KEFTHRUN_DECIDE_TRUE, 1);
-    decided("p cnf 2 2\na 1 0\nd 2 1 0\n1 -2 0\n-1 2 0\n", KEFTHRUN_DECIDE_TRUE, 2);
-    decided("p cnf 3 1\ne 3 2 0\n3 0\n", KEFTHRUN_DECIDE_TRUE, 2);
-    decided("p cnf 4 2\na 3 1 0\ne 4 0\n-3 4 0\n3 -4 0\n", KEFTHRUN_DECIDE_TRUE, 10);
-    decided("p cnf 4 2\na 3 1 0\ne 4 0\n-1 4 0\n1 -4 0\n", KEFTHRUN_DECIDE_TRUE, 12);
-    decided("p cnf 5 1\na 1 2 3 4 0\ne 5 0\n5 0\n", KEFTHRUN_DECIDE_TRUE, 65535);
-    decided("p cnf 16 1\ne " + numbers(1, 16) + "0\n16 0\n", KEFTHRUN_DECIDE_TRUE, 32768);
-    decided("p cnf 17 1\ne " + numbers(1, 17) + "0\n16 0\n", KEFTHRUN_DECIDE_REFUSED, KEFTHRUN_TOO_LARGE);
-    decided("p cnf 6 0\na 1 2 3 4 0\ne 5 0\nd 6 0\n", KEFTHRUN_DECIDE_REFUSED, KEFTHRUN_TOO_LARGE);
-    decided("p cnf 5 0\na 1 2 3 4 5 0\n", KEFTHRUN_DECIDE_REFUSED, KEFTHRUN_TOO_LARGE);
-    decided(wide_formula, KEFTHRUN_DECIDE_REFUSED, KEFTHRUN_TOO_LARGE);
-    Buffers b;
-    expect("accepted", b.load("p cnf 6 1\na 1 2 3 4 0\nd 5 1 2 3 0\nd 6 2 3 4 0\n5 6 0\n") == packed(1, 0, 0));
-    expect("a fork", b.run(record(3, 1, 1, 2)) == packed(2, 1, 0));
-    decided(b, KEFTHRUN_DECIDE_TRUE, 255);
-    expect("accepted", b.load(formula) == packed(1, 0, 0) && b.run(listing()) == packed(1, 3, 5));
-    decided(b, KEFTHRUN_DECIDE_FALSE, 0);
-    expect("a refused text", b.load("p cnf 1\n") == packed(4, 1, 10));
-    decided(b, KEFTHRUN_DECIDE_TRUE, 0);
-    expect("a large formula", b.load("p cnf 5 0\na 1 2 3 4 5 0\n") == packed(1, 0, 0));
-    b[3].data()[0] = 9;
-    decided(b, KEFTHRUN_DECIDE_REFUSED, KEFTHRUN_NOT_WELL_FORMED);
 }
 
 // Resolutions of clause 1 and another one on a literal: the lowest variable that the resolvent holds in both signs.
@@ -354,7 +306,6 @@ static void brief(int which) {
     expect("a short show is empty", b.ask(kefthrun_show, 1) == packed(1, 0, 0));
     expect("a short question is 1", b.ask(kefthrun_clause, 1) == packed(2, 1, 0) && b.ask(kefthrun_variable, 1) == packed(2, 1, 0));
     not_written(b, KEFTHRUN_TABLE_TOO_SHORT);
-    decided(b, KEFTHRUN_DECIDE_REFUSED, KEFTHRUN_TABLE_TOO_SHORT);
     expect("nothing is changed", b.bytes() == before);
     expect("a short load is 1", b.load(formula) == packed(4, 0, 1));
     for (int i = 0; i < 4; i++) expect("tables stay", b[i].bytes() == before[static_cast<size_t>(i)]);
@@ -369,7 +320,6 @@ static void longer(int which) {
     expect("refuted 3 5", b.run(listing()) == packed(1, 3, 5));
     expect("bytes past the size stay", b[which].fresh_from(sizes[which]));
     written(b, formula);
-    decided(b, KEFTHRUN_DECIDE_FALSE, 0);
     expect("a refused text", b.load("p cnf 1\n") == packed(4, 1, 10));
     expect("bytes past the size stay", b[which].fresh_from(sizes[which]));
     expect("guards", b.guards_stand());
@@ -383,7 +333,7 @@ static bool is(const kefthrun::Result &r, unsigned tag, unsigned first, unsigned
 static void class_in_cpp() {
     const kefthrun::Result cleared(0);
     for (unsigned some : {KEFTHRUN_LOAD_ACCEPTED + 0u, KEFTHRUN_LOAD_REFUSED + 0u, KEFTHRUN_RUN_REFUTED + 0u, KEFTHRUN_RUN_OPEN + 0u, KEFTHRUN_RUN_BAD + 0u,
-                          KEFTHRUN_ANSWERED + 0u, KEFTHRUN_REFUSED + 0u, KEFTHRUN_DECIDE_TRUE + 0u, KEFTHRUN_DECIDE_FALSE + 0u, KEFTHRUN_DECIDE_REFUSED + 0u})
+                          KEFTHRUN_ANSWERED + 0u, KEFTHRUN_REFUSED + 0u})
         expect("0 is no case", cleared.tag != some);
     kefthrun::Checker checker;
     const std::vector<uint8_t> none;
@@ -441,19 +391,6 @@ static void texts_in_cpp() {
     expect("the text after a refused load", checker.text() == "p cnf 0 0\n");
 }
 
-// The class: what the formula is.
-static void decisions_in_cpp() {
-    kefthrun::Checker checker;
-    expect("before a load", is(checker.decide(), KEFTHRUN_DECIDE_TRUE, 0, 0));
-    const std::string same = "p cnf 2 2\na 1 0\ne 2 0\n1 -2 0\n-1 2 0\n";
-    expect("accepted", is(checker.load(reinterpret_cast<const uint8_t *>(same.data()), same.size()), KEFTHRUN_LOAD_ACCEPTED, 0, 0));
-    expect("true", is(checker.decide(), KEFTHRUN_DECIDE_TRUE, 2, 0));
-    expect("accepted", is(checker.load(reinterpret_cast<const uint8_t *>(formula.data()), formula.size()), KEFTHRUN_LOAD_ACCEPTED, 0, 0));
-    expect("false", is(checker.decide(), KEFTHRUN_DECIDE_FALSE, 0, 0));
-    expect("accepted", is(checker.load(reinterpret_cast<const uint8_t *>(wide_formula.data()), wide_formula.size()), KEFTHRUN_LOAD_ACCEPTED, 0, 0));
-    expect("too large", is(checker.decide(), KEFTHRUN_DECIDE_REFUSED, KEFTHRUN_TOO_LARGE, 0));
-}
-
 // The class: 256 universals and no more.
 static void wide_sets_in_cpp() {
     kefthrun::Checker checker;
@@ -473,11 +410,9 @@ int main() {
     set_lengths();
     clashes();
     texts();
-    decisions();
     class_in_cpp();
     texts_in_cpp();
     wide_sets_in_cpp();
-    decisions_in_cpp();
     for (int i = 0; i < 5; i++) {
         brief(i);
         longer(i);

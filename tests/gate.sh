@@ -12,7 +12,6 @@ done
 tests/driver.sh
 tests/examples.sh
 tests/tidy.sh
-tests/decide.sh
 tests/soundness.sh
 tests/differential.sh --jobs "$(nproc)"
 tests/depqbf.sh

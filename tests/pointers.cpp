@@ -56,11 +56,6 @@ uint64_t kefthrun_write(uint8_t *out, size_t out_length, const uint8_t *literals
     return seen(out_length, {out, literals, ends, sets, kinds, state});
 }
 
-uint64_t kefthrun_decide(const uint8_t *literals, size_t, const uint8_t *ends, size_t, const uint8_t *sets, size_t, const uint8_t *kinds, size_t,
-                         const uint8_t *state, size_t) {
-    return seen(0, {literals, ends, sets, kinds, state});
-}
-
 // A call hands on its length or its number, once, and no null pointer.
 template <class Call> static void hands_on(const char *what, size_t number, Call call) {
     calls = 0;
@@ -100,7 +95,6 @@ int main() {
     hands_on("a write over no bytes", 0, [&] { checker.write(nullptr, 0); });
     hands_on("a write", 16, [&] { checker.write(output.data(), output.size()); });
     hands_on("a text", KEFTHRUN_TIDY_BYTES, [&] { checker.text(); });
-    hands_on("a decision", 0, [&] { checker.decide(); });
     throws("a load of a null pointer with a length", [&] { checker.load(nullptr, 1); });
     throws("a run of a null pointer with a length", [&] { checker.run(nullptr, 16); });
     throws("a write over a null pointer with a length", [&] { checker.write(nullptr, 16); });

@@ -57,9 +57,6 @@ fn comparisons() {
     for work in work::writes().iter().chain(&random::writes()) {
         compared(work);
     }
-    for work in work::decisions().iter().chain(&random::decisions()) {
-        compared(work);
-    }
 }
 
 /// The times of some works and the ratio of the last two. A ratio that is not
@@ -109,8 +106,6 @@ fn stacks() {
     let single = lists[0].single("full tables");
     let mut writes = work::writes();
     writes.extend(random::writes());
-    let mut decisions = work::decisions();
-    decisions.extend(random::decisions());
     for (name, works) in [
         ("load", &loads[..]),
         ("run", &runs[..]),
@@ -118,7 +113,6 @@ fn stacks() {
         ("length of a clause", &single[2..3]),
         ("kind of a variable", &single[3..]),
         ("write", &writes[..]),
-        ("decide", &decisions[..]),
     ] {
         let most =
             |library: fn(&Work)| works.iter().map(|work| stack::used(|| library(work))).max();

@@ -5,8 +5,6 @@ use std::ops::RangeInclusive;
 
 use cases::prover::{records_of, resolution, Prover};
 use cases::random::Random;
-use cases::small;
-use checker::decide::decided;
 use checker::records::{encode, Step};
 use checker::state::State;
 use differential::scenario::Call;
@@ -163,20 +161,6 @@ pub fn writes() -> Vec<Work> {
         ));
     }
     works
-}
-
-/// A small formula that is decided, true or false.
-fn decision(random: &mut Random) -> Input {
-    loop {
-        let text = small::formula(random).plain();
-        if !decided(&text).starts_with("formula") {
-            return Input::decide(&String::from_utf8_lossy(&text));
-        }
-    }
-}
-
-pub fn decisions() -> Vec<Work> {
-    vec![work("decide, random small formulas".into(), decision)]
 }
 
 /// In the formulas of the runs 64 existentials follow the universals; the first are

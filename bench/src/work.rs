@@ -1,9 +1,8 @@
-//! What is timed: the largest texts, long lists, questions on full tables, tidy
-//! texts and decisions.
+//! What is timed: the largest texts, long lists, questions on full tables and tidy
+//! texts.
 //! The works of `random` are random ones.
 
 use cases::case::{bytes_of, Words};
-use cases::formulas::THEOREM;
 use checker::driver::Buffers;
 use checker::limits::TIDY_BYTES;
 use differential::scenario::Call;
@@ -46,14 +45,6 @@ impl Input {
         Input {
             start,
             call: Call::Write(length.expect("an output that is long enough")),
-        }
-    }
-
-    /// The decision on a formula.
-    pub fn decide(text: &str) -> Input {
-        Input {
-            start: loaded(text),
-            call: Call::Decide,
         }
     }
 
@@ -165,51 +156,6 @@ pub fn writes() -> Vec<Work> {
         ("write, a small formula", small.into()),
     ];
     let works = texts.map(|(name, text)| Work::one(name, Input::write(&text)));
-    works.into()
-}
-
-/// 4 universals, two existentials that see each, 16 bits, and 2,048 clauses of one
-/// literal for each universal: every choice of existentials and signs but one, so
-/// that one family is left. It is the last one where some literal of each clause is
-/// positive, and the first where some one is negative.
-fn decided_clauses(last: bool) -> String {
-    let mut text = format!("p cnf 12 2048\na {} 0\n", joined(1..=4));
-    for existential in 5..=12 {
-        text += &format!("d {existential} {} 0\n", (existential - 3) / 2);
-    }
-    for clause in 0..2_048 {
-        let number = clause * 7 % 240;
-        let (chosen, signs) = (number / 15, 1 + number % 15);
-        let literals = (0..4).map(|universal| {
-            let existential = 5 + 2 * universal + (chosen >> universal & 1);
-            match (signs >> universal & 1 == 1) == last {
-                true => existential,
-                false => -existential,
-            }
-        });
-        text += &format!("{} 0\n", joined(literals));
-    }
-    text
-}
-
-pub fn decisions() -> Vec<Work> {
-    let theorem = String::from_utf8_lossy(THEOREM).into_owned();
-    let texts = [
-        (
-            "decide, 2,048 clauses of 4 literals, 4 universals, 16 bits, last family",
-            decided_clauses(true),
-        ),
-        (
-            "decide, 2,048 clauses of 4 literals, 4 universals, 16 bits, first family",
-            decided_clauses(false),
-        ),
-        (
-            "decide, 16 clauses, 3 universals, 12 bits (000, Theorem 2)",
-            theorem,
-        ),
-        ("decide, 2,048 clauses, above the limits", short_clauses()),
-    ];
-    let works = texts.map(|(name, text)| Work::one(name, Input::decide(&text)));
     works.into()
 }
 

@@ -1,8 +1,8 @@
 // The public calls of the library, the types of their arguments and answers, and the sizes of tables, texts, lists and lines. Everything else in the crates is internal: a
 // function there may ask something of its caller (`requires`), a public call asks nothing.
 // The calls of a C or C++ driver are those of the crate `driver`.
+#![tactic(auto)]
 pub use additions::{StepAnswer, Stepped};
-pub use decider::{Decided, decide};
 pub use dqbf::limits::{CLAUSE_LIMIT, LITERAL_LIMIT, RECORDS_LIMIT, TEXT_LIMIT, VARIABLE_LIMIT};
 pub use dqbf::refusal::Refusal;
 pub use dqdimacs::{LoadAnswer, Loaded, load};

@@ -14,7 +14,7 @@ use Rattle.steps.proofs.Refutation as AfterLoad
 use Rattle.calls.specs.Statements.Refutation.{loaded, Refutation}
 
 -- an accepted load leaves what the theorem of the steps starts from
-pub loaded-is : (t : Tables) (text : List ℕ) (φ : Formula) → long t ≡ true → load text ≡ accepted φ → loaded t text ≡ Steps.loaded φ t
+loaded-is : (t : Tables) (text : List ℕ) (φ : Formula) → long t ≡ true → load text ≡ accepted φ → loaded t text ≡ Steps.loaded φ t
 unfolding loaded Steps.loaded load_of loaded_on loaded_model
 loaded-is t text φ h e = rw (h, e)
 

@@ -1,4 +1,5 @@
 // Decides the formula in formula.dq in its folder (document 02, Note 8) and prints one line: `true N`, `false`, or the line of a refusal (document 01, "The line printed").
+#![tactic(auto)]
 use api::{
     CLAUSE_LIMIT, Decided, LINE_SIZE, LITERAL_LIMIT, LoadAnswer, TABLE_WORDS, TEXT_LIMIT,
     VARIABLE_LIMIT,

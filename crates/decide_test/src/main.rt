@@ -1,5 +1,6 @@
 // Calls `decide` on the packed cases of cases.bin and prints each label with the refusal of the load; or, behind a run of the records, the decision. The tables pass
 // from case to case as the case before left them.
+#![tactic(auto)]
 use api::{CLAUSE_LIMIT, Decided, LITERAL_LIMIT, LoadAnswer, State, TABLE_WORDS, VARIABLE_LIMIT};
 use libc::STDOUT_FILENO;
 

@@ -3,4 +3,4 @@
 use Rattle.std.specs.Prelude.{ℕ}
 
 abbrev pub interface_number : ℕ
-interface_number = 5
+interface_number = 4

@@ -2,7 +2,7 @@
 ghost use Rattle.std.specs.Prelude.{◌≡◌};
 ghost use Rattle.driver.specs.Interface.{interface_number};
 
-const INTERFACE: u32 = 5;
+const INTERFACE: u32 = 4;
 
 // The number that the header of this library has as KEFTHRUN_INTERFACE.
 #[unsafe(no_mangle)]

@@ -27,14 +27,11 @@ use Rattle.tables.proofs.Laws.Spread.{valid-held}
 use Rattle.questions.specs.Answers.{length_answer, variable_answer}
 use Rattle.dqdimacs.specs.Loading.{load_answer, loaded_on, load_of}
 use Rattle.steps.specs.Steps.{ran_on, run_refused, run_of}
-use Rattle.deciding.specs.Deciding.{Decision, true_by, no_family, undecided, decide}
-use Rattle.deciding.proofs.Answers.{number_small, refused-only}
-use Rattle.decider.specs.Decisions.{decision_answer}
 use Rattle.formula_text.specs.Writing.{text_length, no_text}
 use Rattle.buffers.specs.Buffers.{Buffers, whole, tables_in, state_in}
-use Rattle.results.specs.Results.{packed, field, named_variable, load_result, run_result, clause_result, variable_result, write_result, decide_result}
-use Rattle.exports.specs.Calls.{loaded, load_bytes, ran, run_short, run_bytes, clause_bytes, variable_bytes, decide_bytes, wrote, write_bytes}
-use Rattle.exports.specs.Statements.Fields.{fields, load_fields, run_fields, clause_fields, variable_fields, decide_fields, write_fields, LoadTells, RunTells, RunTellsClash, ClauseTells, VariableTells, DecideTells, WriteTells, WriteTellsLength}
+use Rattle.results.specs.Results.{packed, field, named_variable, load_result, run_result, clause_result, variable_result, write_result}
+use Rattle.exports.specs.Calls.{loaded, load_bytes, ran, run_short, run_bytes, clause_bytes, variable_bytes, wrote, write_bytes}
+use Rattle.exports.specs.Statements.Fields.{fields, load_fields, run_fields, clause_fields, variable_fields, write_fields, LoadTells, RunTells, RunTellsClash, ClauseTells, VariableTells, WriteTells, WriteTellsLength}
 use Rattle.buffers.proofs.Laws.{lent-long}
 use Rattle.results.proofs.Laws.{case-is, first-is, second_is, third-is, first-cut, two_fields}
 use Rattle.exports.proofs.Laws.Named.{Well, plain-well, run-well}
@@ -139,25 +136,6 @@ clause-tells b c w = rw w (clause-fields (tables_in b) (state_in b) (lent-long b
 pub variable-tells : VariableTells
 unfolding variable_bytes
 variable-tells b x w = rw w (variable-fields (tables_in b) (state_in b) (lent-long b w) x (well_formed (tables_in b) (state_in b)) refl)
-
--- ---- a decision
-
-decision-fields : (d : Decision) → ((f : ℕ) → d ≡ true_by f → f < 65536) → ((r : Refusal) → d ≡ undecided r → r.number < 65536) → fields (decide_result d) ≡ decide_fields d
-unfolding decide_result decide_fields
-decision-fields (true_by f) h k = two-are 1 f 0 (omega arith) (h f refl) (omega arith)
-decision-fields no_family h k = two-are 2 0 0 (omega arith) (omega arith) (omega arith)
-decision-fields (undecided r) h k = two-are 3 r.number 0 (omega arith) (k r refl) (omega arith)
-
-module _ (t : Tables) (s : State) (lent : long t ≡ true) where
-  decide-fields : (c : Bool) → well_formed t s ≡ c → fields (decide_result (decision_answer t s)) ≡ decide_fields (decision_answer t s)
-  unfolding decision_answer unless_refused decide_result decide_fields
-  decide-fields true e =
-      rw (usable t s lent e) (decision-fields (decide (model_in t s)) (number_small (model_in t s)) (λ r q. let n = refused-only (model_in t s) r q in rw n.0 (omega arith)))
-  decide-fields false e = rw (unusable-ill t s lent e) (two-are 3 2 0 (omega arith) (omega arith) (omega arith))
-
-pub decide-tells : DecideTells
-unfolding decide_bytes
-decide-tells b w = rw w (decide-fields (tables_in b) (state_in b) (lent-long b w) (well_formed (tables_in b) (state_in b)) refl)
 
 -- ---- a written formula
 

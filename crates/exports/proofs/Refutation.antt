@@ -45,30 +45,30 @@ refuted-is (bad s x) h = absurd (omega (arith, case-is 3 s x.number (named_varia
 
 -- ---- buffers as lent tables
 
-unfoldable pub lent_in : Buffers → Lent
+lent_in : Buffers → Lent
 lent_in b = record { tables = tables_in b; state = state_in b }
 
 -- long enough, and the tables are well formed
-pub record Good (b : Buffers) : Type 0 where
-  pub room : whole b ≡ true
-  pub formed : well_formed (tables_in b) (state_in b) ≡ true
+record Good (b : Buffers) : Type 0 where
+  room : whole b ≡ true
+  formed : well_formed (tables_in b) (state_in b) ≡ true
 
 -- a valid model that is written
 module _ (b : Buffers) (m : Model) (w : whole b ≡ true) (v : Valid tables m) where
-  unfoldable pub after : Buffers
+  after : Buffers
   after = written b (spread m (tables_in b)) (state_of m)
 
-  pub after-good : Good after
+  after-good : Good after
   unfolding after
   after-good = record { room = (read_back b m w v).2; formed = rw ((read_back b m w v).0, (read_back b m w v).1) (formed-spread m v (tables_in b)) }
 
-  pub after-lent : lent_in after ≡ record { tables = spread m (tables_in b); state = state_of m }
+  after-lent : lent_in after ≡ record { tables = spread m (tables_in b); state = state_of m }
   unfolding after lent_in
   after-lent = λ i. record { tables = (read_back b m w v).0 i; state = (read_back b m w v).1 i }
 
 -- ---- a run
 
-unfoldable pub call : Call → Run.Call
+call : Call → Run.Call
 call (run_call records) = Run.run_call records
 call other_call = Run.other_call
 
@@ -95,10 +95,10 @@ module _ (b : Buffers) (g : Good b) (records : List ℕ) where
   unfolding next after ran ran_on ran-model
   buffers-are = ap (λ (x : After). x.buffers) bytes-are
 
-  pub run-good : Good (next b (run_call records))
+  run-good : Good (next b (run_call records))
   run-good = rw buffers-are (after-good b ran-model g.room ran-valid)
 
-  pub run_lent : lent_in (next b (run_call records)) ≡ Lending.next (lent_in b) (Run.run_call records)
+  run_lent : lent_in (next b (run_call records)) ≡ Lending.next (lent_in b) (Run.run_call records)
   unfolding Lending.next lent_in
   run_lent =
       ap lent_in buffers-are ∙ after-lent b ran-model g.room ran-valid
@@ -113,11 +113,11 @@ module _ (b : Buffers) (g : Good b) (records : List ℕ) where
       let r = refuted-is x told in
       (r.0, r.1, ap Run.ran (sym r.2))
 
-pub other-stays : (x : Lent) → Lending.next x Run.other_call ≡ x
+other-stays : (x : Lent) → Lending.next x Run.other_call ≡ x
 unfolding Lending.next
 other-stays x = refl
 
-pub results-are : (b : Buffers) → Good b → (calls : List Call) (r : ℕ) → r ∈ run_results b calls → field 0 r ≡ 1
+results-are : (b : Buffers) → Good b → (calls : List Call) (r : ℕ) → r ∈ run_results b calls → field 0 r ≡ 1
     → (s k : ℕ) × (Run.ran (refuted s k) ∈ answers (lent_in b) (map call calls))
 unfolding run_results answers call
 results-are b g [] r q h = absurd (Memᴰ.not-nil q)
@@ -140,7 +140,7 @@ unfolding load_short load_result
 never-short b h = omega (arith, case-is 4 0 1 0 (omega arith))
 
 module _ (b : Buffers) (text : List ℕ) where
-  pub load-whole : (c : Bool) → whole b ≡ c → field 0 (load_bytes b text).result ≡ 1 → whole b ≡ true
+  load-whole : (c : Bool) → whole b ≡ c → field 0 (load_bytes b text).result ≡ 1 → whole b ≡ true
   unfolding load_bytes
   load-whole true e h = e
   load-whole false e h = absurd (never-short b (rw e at h))
@@ -150,12 +150,12 @@ module _ (b : Buffers) (text : List ℕ) where
     unfolding load_bytes load_of
     load_is = rw (w, lent-long b w)
 
-    pub load-accepted : (o : Reading.Loaded) → load text ≡ o → field 0 (load_bytes b text).result ≡ 1 → (φ : Formula) × (load text ≡ accepted φ)
+    load-accepted : (o : Reading.Loaded) → load text ≡ o → field 0 (load_bytes b text).result ≡ 1 → (φ : Formula) × (load text ≡ accepted φ)
     load-accepted (accepted φ) e h = (φ, e)
     load-accepted (refused line number) e h = absurd (never-refused b line number (rw (load_is, e) at h))
 
     module _ (φ : Formula) (e : load text ≡ accepted φ) where
-      pub loaded-are : (load_bytes b text).buffers ≡ after b (model_of φ) w (load-valid text φ e)
+      loaded-are : (load_bytes b text).buffers ≡ after b (model_of φ) w (load-valid text φ e)
       unfolding after loaded loaded_on loaded_model
       loaded-are = ap (λ (x : After). x.buffers) load_is ∙ ap (λ (o : Reading.Loaded). (loaded b (loaded_on (tables_in b) o)).buffers) e
 

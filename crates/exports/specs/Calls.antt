@@ -5,7 +5,7 @@
 --     load_bytes, run_bytes                          what a load and a run leave and return
 --     load_whole, run_whole                          the same over buffers that are long enough
 --     load_short, run_short                          the same where one is too short
---     show_bytes, clause_bytes, variable_bytes, decide_bytes     the results of the calls that write nothing
+--     show_bytes, clause_bytes, variable_bytes        the results of the calls that write nothing
 --     AfterWriteBytes                              the output behind a written formula, and the result
 --     write_bytes                                   what a written formula leaves and returns: the buffers are read only (document 02, Note 1)
 --     write_whole, write_short                       the same over buffers that are long enough, and where one is too short
@@ -18,12 +18,10 @@ use Rattle.questions.specs.Answers.{length_answer, variable_answer, shown_start,
 use Rattle.dqdimacs.specs.Loading.{AfterLoad, load_of}
 use Rattle.dqdimacs.specs.declared.LoadAnswer.TheVariants as Load
 use Rattle.steps.specs.Steps.{AfterRun, run_of}
-use Rattle.deciding.specs.Deciding.{undecided}
-use Rattle.decider.specs.Decisions.{decision_answer}
 use Rattle.formula_text.specs.Writing.{no_text, AfterWrite, write_of}
 use Rattle.codec.specs.Bytes.{Bytes, over}
 use Rattle.buffers.specs.Buffers.{Buffers, buffers_of, state_size, state_whole, whole, tables_in, state_in, written}
-use Rattle.results.specs.Results.{load_result, run_result, clause_result, show_result, variable_result, write_result, decide_result}
+use Rattle.results.specs.Results.{load_result, run_result, clause_result, show_result, variable_result, write_result}
 
 -- every entry of the buffers is a byte
 pub record AllBytes (b : Buffers) : Type 0 where
@@ -80,9 +78,6 @@ clause_bytes b c = cond (whole b) (clause_result (length_answer (tables_in b) (s
 
 unfoldable pub variable_bytes : Buffers → ℕ → ℕ
 variable_bytes b x = cond (whole b) (variable_result (variable_answer (tables_in b) (state_in b) x)) (variable_result (no_variable (refusal 1)))
-
-unfoldable pub decide_bytes : Buffers → ℕ
-decide_bytes b = cond (whole b) (decide_result (decision_answer (tables_in b) (state_in b))) (decide_result (undecided (refusal 1)))
 
 -- ---- a written formula
 

@@ -1,4 +1,5 @@
 // Files read whole.
+#![tactic(auto)]
 ghost use Rattle.std.specs.Prelude.{◌≤◌, length};
 
 // Reads to the end of a file or until `bytes` is full, with short reads continued; a file that cannot be read to there counts as empty.

@@ -1,2 +1,3 @@
 // The form of a line of formula text (document 01, "Formula text").
+#![tactic(auto)]
 pub mod form;

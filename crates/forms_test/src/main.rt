@@ -1,4 +1,5 @@
 // Tests of the forms: prints the form of each line of its input, with its numbers, and for clauses and universals these numbers in ascending order.
+#![tactic(auto)]
 ghost use Rattle.std.specs.Prelude.{◌≤◌, ◌*◌, length};
 ghost use Rattle.forms_test.specs.Counted.{Counted};
 

@@ -4,7 +4,7 @@ ghost use Rattle.dqbf.specs.Reading.{clause_line};
 ghost use Rattle.dqbf.specs.Spelling.{line_text, text};
 ghost use Rattle.tables.specs.Tables.{cut};
 ghost use Rattle.words.specs.Laid.{Fits, Wrote};
-ghost use Rattle.tables.specs.FormulaEntries.{Rises};
+ghost use Rattle.formula_lines.specs.Working.{Rises};
 
 // The line of a clause.
 pub fn write_clause(out: &mut [u8], at: usize, clause: &[i16]) -> usize

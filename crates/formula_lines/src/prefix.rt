@@ -8,8 +8,7 @@ ghost use Rattle.dqbf.specs.Spelled.{existentials, a_lines, d_line_of};
 ghost use Rattle.sets.specs.Words.{words_each, as_set, as_sets};
 ghost use Rattle.words.specs.Laid.{Fits, Wrote};
 ghost use Rattle.words.specs.Listed.{listed};
-ghost use Rattle.tables.specs.FormulaEntries.{declarations};
-ghost use Rattle.formula_lines.specs.Working.{universal_names, is_in, members_in, declared_from};
+ghost use Rattle.formula_lines.specs.Working.{declarations, universal_names, is_in, members_in, declared_from};
 
 use super::universals;
 use tables::{VariableNumber, entries, kind as kinds_of};

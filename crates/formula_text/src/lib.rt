@@ -1,4 +1,5 @@
 // The formula part of the tables as DQDIMACS (document 02, Note 1).
+#![tactic(auto)]
 ghost use Rattle.std.specs.Prelude.{◌≡◌, true, ltb, length};
 ghost use Rattle.tables.specs.Tables.{tables_of, cut, model_in};
 ghost use Rattle.tables.specs.WellFormed.{long, well_formed};
@@ -7,7 +8,7 @@ ghost use Rattle.dqbf.specs.Spelled.{formula_in, lines_of, spelled};
 ghost use Rattle.sets.specs.Words.{words_each, as_sets};
 ghost use Rattle.words.specs.Laid.{Fits, Wrote};
 ghost use Rattle.formula_lines.specs.Working.{universal_names};
-ghost use Rattle.tables.specs.FormulaEntries.{Entries};
+ghost use Rattle.formula_text.specs.Entries.{Entries};
 ghost use Rattle.formula_text.specs.Writing.{write_told, write_of};
 
 use dqbf::limits::UNIVERSAL_LIMIT;

@@ -1,4 +1,5 @@
 // Checks the steps in steps.bin against the formula in formula.dq, both in its folder, and prints the line (document 01, "The line printed").
+#![tactic(auto)]
 use api::{
     CLAUSE_LIMIT, LINE_SIZE, LITERAL_LIMIT, RECORDS_LIMIT, TABLE_WORDS, TEXT_LIMIT, VARIABLE_LIMIT,
     Written,

@@ -7,16 +7,13 @@ ghost use Rattle.lines.specs.declared.line.Verdict.TheVariants.{Bad};
 
 use dqbf::refusal::Refusal;
 
-// What is printed: accepted steps and lowest empty clause; accepted steps; a step with its refusal; a line of the formula with its refusal; of a decision (document 02,
-// Note 8) the number of a family, or that there is none.
+// What is printed: accepted steps and lowest empty clause; accepted steps; a step with its refusal; a line of the formula with its refusal.
 #[derive(Drop)]
 pub enum Verdict {
     Refuted(u32, u32),
     Open(u32),
     Bad(u32, Refusal),
     Formula(u32, u32),
-    True(u32),
-    False,
 }
 
 // Bytes that are lent for a line: enough for every one.
@@ -114,7 +111,5 @@ pub fn write_line(out: &mut [u8], verdict: Verdict) -> Written
             b"formula",
             &[line, number],
         )),
-        Verdict::True(family) => Written::Bytes(write_word_numbers(out, b"true", &[family])),
-        Verdict::False => Written::Bytes(write_word_numbers(out, b"false", &[])),
     }
 }

@@ -1,5 +1,6 @@
 // For each number of numbers.bin (32 bits, little-endian) but the last: how many digits it has, and the line of each verdict, with the number behind it as the second.
 // A refused step has the low 16 bits of the second as its number, and once more with those of the first as the variable.
+#![tactic(auto)]
 ghost use Rattle.std.specs.Prelude.{◌+◌, ◌≤◌, ◌<◌, length};
 
 use dqbf::refusal::Refusal;

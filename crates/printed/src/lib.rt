@@ -1,4 +1,5 @@
 // Numbers and literals on standard output, each behind a space: what the test programs print.
+#![tactic(auto)]
 use libc::STDOUT_FILENO;
 
 pub fn number(value: u32) {

@@ -5,7 +5,6 @@
 --     named_variable, refusal_in                          the variable that a refusal names (document 02, Note 4); a refusal from number and variable
 --     load_result, run_result, clause_result, variable_result      of each answer, with the paper's numbers of refusal
 --     show_result                                        of a shown clause: place and length, and no refusal
---     decide_result                                      of a decision (document 02, Note 8)
 --     write_result                                       of a written formula: the text's length in two fields, the low 16 bits first
 use Rattle.std.specs.Prelude.{cond, ℕ, zero, suc, ◌+◌, ◌*◌, ◌/◌, ◌%◌, eqb, length, get_or}
 use Rattle.dqbf.specs.Refusal.{Refusal, refusal, naming}
@@ -14,7 +13,6 @@ use Rattle.dqbf.specs.Questions.{ClauseAnswer, clause_length, no_clause, Variabl
 use Rattle.dqbf.specs.Run.{Verdict, refuted, open', bad}
 use Rattle.dqdimacs.specs.declared.LoadAnswer.{LoadAnswer}
 use Rattle.dqdimacs.specs.declared.LoadAnswer.TheVariants as Load
-use Rattle.deciding.specs.Deciding.{Decision, true_by, no_family, undecided}
 use Rattle.formula_text.specs.Writing.{TextAnswer, text_length, no_text}
 
 unfoldable pub packed : ℕ → ℕ → ℕ → ℕ → ℕ
@@ -65,9 +63,3 @@ variable_result (no_variable r) = packed 2 r.number 0 0
 unfoldable pub write_result : TextAnswer → ℕ
 write_result (text_length n) = packed 1 n (n / 65536) 0
 write_result (no_text r) = packed 2 r.number 0 0
-
--- 1: true with the family's number; 2: false; 3: refused with its number
-unfoldable pub decide_result : Decision → ℕ
-decide_result (true_by f) = packed 1 f 0 0
-decide_result no_family = packed 2 0 0 0
-decide_result (undecided r) = packed 3 r.number 0 0

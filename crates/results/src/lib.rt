@@ -1,14 +1,13 @@
 // Results: one number of four 16-bit fields. The case is never 0.
+#![tactic(auto)]
 ghost use Rattle.std.specs.Prelude.{◌≡◌};
-ghost use Rattle.results.specs.Results.{packed, load_result, run_result, clause_result, stretch_result, variable_result, write_result, decide_result};
+ghost use Rattle.results.specs.Results.{packed, load_result, run_result, clause_result, stretch_result, variable_result, write_result};
 ghost use Rattle.dqbf.specs.Refusal.{refusal_told};
 ghost use Rattle.dqbf.specs.Run.{bad};
 ghost use Rattle.questions.specs.Answers.{length_told, variable_told};
 ghost use Rattle.steps.specs.Steps.{run_told};
-ghost use Rattle.decider.specs.Decisions.{decision_told};
 ghost use Rattle.formula_text.specs.Writing.{write_told};
 
-use decider::Decided;
 use dqbf::refusal::Refusal;
 use dqdimacs::LoadAnswer;
 use formula_text::WriteAnswer;
@@ -29,12 +28,6 @@ pub const BAD: u8 = 3;
 pub const ANSWERED: u8 = 1;
 
 pub const REFUSED: u8 = 2;
-// of a decision
-pub const TRUE: u8 = 1;
-
-pub const FALSE: u8 = 2;
-
-pub const UNDECIDED: u8 = 3;
 // The number of refusal where a buffer has too few bytes.
 pub const TABLE_TOO_SHORT: u32 = 1;
 
@@ -122,15 +115,5 @@ pub fn of_write(answer: WriteAnswer) -> u64
             0,
         ),
         WriteAnswer::Refused(number) => pack(REFUSED, number as u32, 0, 0),
-    }
-}
-
-pub fn of_decide(answer: Decided) -> u64
-    ensures { result ≡ decide_result (decision_told answer) }
-{
-    match answer {
-        Decided::True(family) => pack(TRUE, family as u32, 0, 0),
-        Decided::False => pack(FALSE, 0, 0, 0),
-        Decided::Refused(number) => pack(UNDECIDED, number as u32, 0, 0),
     }
 }

@@ -1,18 +1,21 @@
 -- The claims of specs/AfterSteps.antt: a step and a run keep the formula part, and the text is its spelling.
 use mathlib.Core.Path.{◌≡◌, refl, ◌∙◌, ap}
-use mathlib.Core.Bool.{Bool, true, false}
-use mathlib.Core.List.{List}
-use Prim.Native.Nat.{ℕ, ◌≤◌}
-use Rattle.dqbf.specs.Limits.{text_limit, tables}
-use Rattle.dqbf.specs.Refusal.{first}
+use mathlib.Core.Bool.{Bool, true, false, cond}
+use mathlib.Core.List.{List, [], ◌∷◌}
+use Prim.Native.Nat.{ℕ, suc, ◌≤◌}
+use lib.Dec.{ltb}
+use lib.ListN.{length}
+use Rattle.dqbf.specs.Limits.{Room, records_limit, text_limit, tables}
+use Rattle.dqbf.specs.Refusal.{refusal, first}
 use Rattle.dqbf.specs.Model.{Model, model_of}
 use Rattle.dqbf.specs.Valid.{Valid}
-use Rattle.dqbf.specs.Run.{examine_bytes, after, run}
+use Rattle.dqbf.specs.Record.{stretches}
+use Rattle.dqbf.specs.Rules.{add}
+use Rattle.dqbf.specs.Run.{Examined, accepts, refuses, examine_bytes, after, bad, go_on, run_from, run_from_by, run, run_by}
 use Rattle.dqbf.specs.Run as Run
 use Rattle.dqbf.specs.Spelled.{formula_part, lines_of, spelled}
 use Rattle.dqbf.specs.Spelling.{text}
 use Rattle.dqbf.proofs.LoadValid.{load-valid}
-use Rattle.dqbf.proofs.FormulaPart.{after-part, run-part, part-formula}
 use Rattle.dqbf.proofs.StepsKeepValid.{call-keeps}
 use Rattle.tables.specs.declared.State.{State}
 use Rattle.tables.specs.Tables.{Tables, model_in}
@@ -27,15 +30,39 @@ use Rattle.steps.specs.Steps.{examined, step_refused, step_of, ran_on, run_refus
 use Rattle.formula_text.specs.Writing.{write_tests, write_of}
 use Rattle.round_trip.specs.Statements.{WroteText, text_of, loaded}
 use Rattle.round_trip.specs.AfterSteps.{StepUnwritten, RunUnwritten, RestoredAfterRun}
-use Rattle.round_trip.proofs.ReadAgain.{on-accepted, read_again}
+use Rattle.round_trip.proofs.ReadAgain.{on-accepted, part-formula, read_again}
 
--- ---- models with the same formula part have the same text
+-- ---- the formula part stays
+
+after-part : (m : Model) (e : Examined) → formula_part (after m e) ≡ formula_part m
+unfolding formula_part after add
+after-part m (accepts a) = refl
+after-part m (refuses x) = refl
+
+module _ (room : Room) where
+  records-part : (rs : List (List ℕ)) (n : ℕ) (m : Model) → formula_part (run_from room rs n m).model ≡ formula_part m
+  unfolding run_from_by go_on after
+  records-part [] n m = refl
+  records-part (bs ∷ rs) n m = go (examine_bytes room m bs) (λ m'. records-part rs (suc n) m')
+    where
+      go : (e : Examined) → ((m' : Model) → formula_part (run_from room rs (suc n) m').model ≡ formula_part m')
+          → formula_part (go_on e m (suc n) (λ m'. run_from room rs (suc n) m')).model ≡ formula_part m
+      go (accepts a) rest = rest (add m a) ∙ after-part m (accepts a)
+      go (refuses x) rest = refl
+
+  run-part : (m : Model) (bs : List ℕ) → formula_part (run room m bs).model ≡ formula_part m
+  unfolding run_by
+  run-part m bs = go (ltb records_limit (length bs))
+    where
+      go : (b : Bool) → formula_part (cond b (record { model = m; verdict = bad 0 (refusal 11) }) (run_from room (stretches (length bs) bs) 0 m)).model ≡ formula_part m
+      go true = refl
+      go false = records-part (stretches (length bs) bs) 0 m
 
 spelled-part : (m m' : Model) → formula_part m ≡ formula_part m' → spelled m ≡ spelled m'
 unfolding spelled
 spelled-part m m' e = ap (λ (p : Model). text (lines_of p)) e
 
--- ---- and the same outcome of a write
+-- ---- and so does the outcome of a write
 
 write_same : (t t' : Tables) (s s' : State) (out : List ℕ) → long t ≡ true → well_formed t s ≡ true → long t' ≡ true → well_formed t' s' ≡ true
     → spelled (model_in t s) ≡ spelled (model_in t' s') → write_of t s out ≡ write_of t' s' out

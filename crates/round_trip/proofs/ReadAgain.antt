@@ -1,5 +1,5 @@
 -- The claims of specs/Statements.antt: the text that was written is the spelling of the formula part, which reads back (dqbf's specs/Statements/ReadsBack.antt).
-use mathlib.Core.Path.{◌≡◌, sym, ◌∙◌, ap}
+use mathlib.Core.Path.{◌≡◌, refl, sym, ◌∙◌, ap}
 use mathlib.Core.Bool.{true}
 use mathlib.Core.List.{List}
 use Prim.Native.Nat.{ℕ, ◌≤◌}
@@ -10,10 +10,9 @@ use Rattle.dqbf.specs.Limits.{text_limit, tables}
 use Rattle.dqbf.specs.Refusal.{refusal}
 use Rattle.dqbf.specs.Formula.{Formula}
 use Rattle.dqbf.specs.Reading.{load, accepted}
-use Rattle.dqbf.specs.Model.{Model, model_of}
+use Rattle.dqbf.specs.Model.{Model, model_by, model_of}
 use Rattle.dqbf.specs.Valid.{Valid}
 use Rattle.dqbf.proofs.LoadValid.{load-valid}
-use Rattle.dqbf.proofs.FormulaPart.{part-formula}
 use Rattle.tables.specs.declared.State.{State}
 use Rattle.tables.specs.Tables.{Tables, model_in}
 use Rattle.tables.specs.Spread.{spread, state_of}
@@ -70,6 +69,10 @@ read_again t s out n h short t' lent =
     let w = told t s out n h in
     let r = loads-back (model_in t s) (valid-held t s w.lent w.formed) (omega (arith, w.count)) in
     ap (load_of t') w.is ∙ on-accepted t' (spelled (model_in t s)) (formula_of (formula_part (model_in t s))) lent r.0 ∙ ap (λ (m : Model). loaded m t') r.1
+
+pub part-formula : (φ : Formula) → formula_part (model_of φ) ≡ model_of φ
+unfolding formula_part model_by
+part-formula φ = refl
 
 -- a model without steps, over the tables that hold it
 again : (t : Tables) (m : Model) → Valid tables m → formula_part m ≡ m → long t ≡ true → (out : List ℕ) (n : ℕ) → WroteText (spread m t) (state_of m) out n → n ≤ text_limit

@@ -1,5 +1,6 @@
 // Calls `step` and `show` and prints what they answer. First the first tests of a step; then the packed cases of cases.bin, each with its label: the refusal of the load, or
 // the answer of each step, the counts and every clause as it is shown. The tables pass from case to case as the case before left them.
+#![tactic(auto)]
 mod first;
 mod shown;
 mod taken;

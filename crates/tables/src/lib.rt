@@ -1,4 +1,5 @@
 // The four lent tables with their state (document 01, "The four lent tables"): what they hold, when they are well formed, and how clauses and variables are added to them.
+#![tactic(auto)]
 
 // Clause, step and variable numbers are three separate counters.
 #[derive(Drop)]

@@ -1,4 +1,5 @@
 // Prints the tidy text of the formula in formula.dq in its folder (document 02, Note 1), or the line of its refusal (document 01, "The line printed").
+#![tactic(auto)]
 use api::{
     CLAUSE_LIMIT, LINE_SIZE, LITERAL_LIMIT, LoadAnswer, State, TABLE_WORDS, TEXT_LIMIT, TIDY_LIMIT,
     VARIABLE_LIMIT, WriteAnswer,

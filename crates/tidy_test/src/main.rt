@@ -1,6 +1,7 @@
 // Calls `write_formula` on the packed cases of cases.bin and prints each label with the refusal of the load; or, behind a run of the records, the tidy text, its length,
 // the answer for an output one byte shorter than the text, and whether all bytes that are to stay are as they were. The tables pass from case to case as the case before
 // left them.
+#![tactic(auto)]
 mod told;
 mod written;
 

@@ -1,4 +1,5 @@
 // Judges the packed cases of cases.bin and prints each label with its line. The tables pass from case to case as the case before left them.
+#![tactic(auto)]
 use api::{LINE_SIZE, Written};
 use libc::STDOUT_FILENO;
 

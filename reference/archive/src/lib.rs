@@ -92,19 +92,6 @@ extern "C" {
         state: *const u8,
         state_length: usize,
     ) -> u64;
-
-    fn kefthrun_decide(
-        literals: *const u8,
-        literals_length: usize,
-        ends: *const u8,
-        ends_length: usize,
-        sets: *const u8,
-        sets_length: usize,
-        kinds: *const u8,
-        kinds_length: usize,
-        state: *const u8,
-        state_length: usize,
-    ) -> u64;
 }
 
 /// Calls a writing function with an input and the five buffers.
@@ -132,11 +119,11 @@ macro_rules! write {
     }};
 }
 
-/// Calls a reading function with the five buffers and a number, if it has one.
+/// Calls a reading function with the five buffers and a number.
 ///
 /// Safe: every pointer is a slice's, with its length.
 macro_rules! read {
-    ($call:ident, $lent:ident $(, $number:ident)?) => {{
+    ($call:ident, $lent:ident, $number:ident) => {{
         let [literals, ends, sets, kinds, state] = $lent;
         unsafe {
             $call(
@@ -150,7 +137,7 @@ macro_rules! read {
                 kinds.len(),
                 state.as_ptr(),
                 state.len(),
-                $($number,)?
+                $number,
             )
         }
     }};
@@ -187,10 +174,6 @@ impl Library for Archive {
 
     fn variable(&mut self, lent: Shared, variable: u32) -> u64 {
         read!(kefthrun_variable, lent, variable)
-    }
-
-    fn decide(&mut self, lent: Shared) -> u64 {
-        read!(kefthrun_decide, lent)
     }
 
     fn write(&mut self, out: &mut [u8], lent: Shared) -> u64 {

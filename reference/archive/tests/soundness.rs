@@ -1,5 +1,4 @@
-//! Nothing true is refuted by the archive, and nothing refuted is called true:
-//! tests/soundness.sh.
+//! Nothing true is refuted by the archive: tests/soundness.sh.
 
 use archive::Archive;
 use differential::soundness::{refutes, searched, tried_at_random};

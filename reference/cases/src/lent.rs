@@ -8,12 +8,10 @@ use checker::state::{Counts, State};
 use checker::tables::export;
 
 use crate::bordered;
-use crate::draft::Draft;
 use crate::formulas::{self, random_formula};
 use crate::prover::{records_of, Prover};
 use crate::random::Random;
 use crate::set_damage;
-use crate::small;
 
 /// Tables with a list of records that has a fair chance on them.
 pub struct LentCase {
@@ -35,25 +33,6 @@ pub fn well_formed(seed: u64, index: u64) -> LentCase {
         0 | 1 => bordered::formula(random),
         _ => bordered::sometimes_spread(random_formula(random, size), 10, random),
     };
-    made_from(&draft, random, |_| ())
-}
-
-/// The same around the limits of a decision, by choice with an empty clause behind
-/// all others.
-pub fn small(seed: u64, index: u64) -> LentCase {
-    let random = &mut Random::for_case(seed ^ 5, index);
-    let draft = small::formula(random);
-    let emptied = random.chance(40);
-    made_from(&draft, random, |lent| {
-        if emptied {
-            add_empty_clause(lent);
-        }
-    })
-}
-
-/// The tables that some steps on a formula reach, with another order of the bits
-/// and, by choice, with other sets and derived clauses, and with one more change.
-fn made_from(draft: &Draft, random: &mut Random, change: impl Fn(&mut Lent)) -> LentCase {
     let text = draft.plain();
     let start = State::load(&text).expect("drafts are within the limits");
     let mut prover = Prover::new(start, random);
@@ -70,7 +49,6 @@ fn made_from(draft: &Draft, random: &mut Random, change: impl Fn(&mut Lent)) -> 
         change_derived_clauses(&mut lent, random);
         change_steps(&mut lent, random);
     }
-    change(&mut lent);
     let records = records_for(&lent, reached, random);
     LentCase { lent, records }
 }
@@ -149,17 +127,6 @@ fn change_steps(lent: &mut Lent, random: &mut Random) {
     counts.steps = most - formula;
 }
 
-/// A derived clause without literals, which need not follow from anything.
-fn add_empty_clause(lent: &mut Lent) {
-    let counts = &mut lent.counts;
-    lent.tables.ends[usize::from(counts.clauses)] = counts.literals;
-    counts.clauses += 1;
-    counts.steps += 1;
-    if counts.lowest_empty == 0 {
-        counts.lowest_empty = counts.clauses;
-    }
-}
-
 /// Some permitted steps, then one that may be refused, or a resolution with more
 /// than one complementary pair or a resolvent that is too wide.
 fn records_for(lent: &Lent, tries: usize, random: &mut Random) -> Vec<u8> {
@@ -180,20 +147,10 @@ fn records_for(lent: &Lent, tries: usize, random: &mut Random) -> Vec<u8> {
     records_of(&steps)
 }
 
-/// The tables of [`well_formed`] with one entry or one count changed.
+/// The same tables with one entry or one count changed.
 pub fn damaged(seed: u64, index: u64) -> LentCase {
-    with_damage(
-        well_formed(seed, index),
-        &mut Random::for_case(!seed, index),
-    )
-}
-
-/// Those of [`small`] with one entry or one count changed.
-pub fn damaged_small(seed: u64, index: u64) -> LentCase {
-    with_damage(small(seed, index), &mut Random::for_case(!seed, index))
-}
-
-fn with_damage(mut case: LentCase, random: &mut Random) -> LentCase {
+    let mut case = well_formed(seed, index);
+    let random = &mut Random::for_case(!seed, index);
     let tables = &mut case.lent.tables;
     let counts = case.lent.counts;
     let literals = counts.literals;

@@ -1,11 +1,9 @@
 //! `cases --seed S --count N` with `--out FILE`, `--dir DIR`, `--joined DIR` or
 //! `--lines FILE` writes cases; `--only PREFIX` keeps those whose label begins so.
-//! `cases --seed S --count N --small DIR` writes cases around the limits of a
-//! decision, as `--dir` does.
 //! `cases --vectors DIR` writes the data and the stdout of the program `vectors`,
 //! `cases --steps DIR` those of the program `steps_test`, `cases --texts DIR` those
-//! of the program `tidy_test`, `cases --decisions DIR` those of the program
-//! `decide_test`, `cases --numbers DIR` those of the program `lines_test`.
+//! of the program `tidy_test`, `cases --numbers DIR` those of the program
+//! `lines_test`.
 
 #![forbid(unsafe_code)]
 
@@ -15,11 +13,11 @@ use std::path::{Path, PathBuf};
 use std::process::ExitCode;
 
 use cases::case::Case;
-use cases::{container, decided, generate, numbered, packed, small, stepped, tidied, vectors};
+use cases::{container, generate, numbered, packed, stepped, tidied, vectors};
 
 const USAGE: &str = "usage: cases [--seed S] [--count N] [--only PREFIX] \
-    [--out FILE] [--dir DIR] [--joined DIR] [--lines FILE] [--small DIR] \
-    [--vectors DIR] [--steps DIR] [--texts DIR] [--decisions DIR] [--numbers DIR]";
+    [--out FILE] [--dir DIR] [--joined DIR] [--lines FILE] \
+    [--vectors DIR] [--steps DIR] [--texts DIR] [--numbers DIR]";
 
 #[derive(Default)]
 struct Options {
@@ -30,11 +28,9 @@ struct Options {
     dir: Option<PathBuf>,
     joined: Option<PathBuf>,
     lines: Option<PathBuf>,
-    small: Option<PathBuf>,
     vectors: Option<PathBuf>,
     steps: Option<PathBuf>,
     texts: Option<PathBuf>,
-    decisions: Option<PathBuf>,
     numbers: Option<PathBuf>,
 }
 
@@ -51,11 +47,9 @@ fn options() -> Option<Options> {
             "--dir" => options.dir = Some(value.into()),
             "--joined" => options.joined = Some(value.into()),
             "--lines" => options.lines = Some(value.into()),
-            "--small" => options.small = Some(value.into()),
             "--vectors" => options.vectors = Some(value.into()),
             "--steps" => options.steps = Some(value.into()),
             "--texts" => options.texts = Some(value.into()),
-            "--decisions" => options.decisions = Some(value.into()),
             "--numbers" => options.numbers = Some(value.into()),
             _ => return None,
         }
@@ -90,10 +84,6 @@ fn write(options: &Options) -> io::Result<usize> {
         let cases = tidied::cases();
         return write_program(folder, &cases, tidied::printed(&cases));
     }
-    if let Some(folder) = options.decisions.as_deref() {
-        let cases = decided::cases();
-        return write_program(folder, &cases, decided::printed(&cases));
-    }
     if let Some(folder) = options.numbers.as_deref() {
         write_data(
             folder,
@@ -102,11 +92,6 @@ fn write(options: &Options) -> io::Result<usize> {
             numbered::printed(),
         )?;
         return Ok(numbered::numbers().len());
-    }
-    if let Some(folder) = options.small.as_deref() {
-        let cases = small::cases(options.seed, options.count.unwrap_or(100));
-        container::write_folders(&cases, folder)?;
-        return Ok(cases.len());
     }
     let mut cases = generate(options.seed, options.count);
     cases.retain(|case| case.label.starts_with(&options.only));

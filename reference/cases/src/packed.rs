@@ -1,5 +1,5 @@
-//! Cases for the programs `vectors`, `steps_test`, `tidy_test` and `decide_test`,
-//! packed: every number is unsigned, 16 bits, little-endian.
+//! Cases for the programs `vectors`, `steps_test` and `tidy_test`, packed: every
+//! number is unsigned, 16 bits, little-endian.
 //!
 //! A file is the number of cases, then for each its text, records and label. A
 //! byte string is the number of its runs and the runs; a run is how often it

@@ -12,7 +12,6 @@ use crate::draft::Draft;
 use crate::formulas::{self, disguised_family, random_formula};
 use crate::prover::{records_of, trimmed, Prover};
 use crate::random::Random;
-use crate::small;
 use crate::wide;
 
 /// Case `index` of a seed.
@@ -34,12 +33,6 @@ pub fn case(seed: u64, index: u64) -> Case {
     }
 }
 
-/// Whether case `index` of a seed is one of permitted steps alone, of which there
-/// are many.
-pub fn is_permitted(seed: u64, index: u64) -> bool {
-    Random::for_case(seed, index).below(100) <= 43
-}
-
 /// A case beside those of [`case`]: a large prefix, for tidy texts.
 pub fn prefixed(seed: u64, index: u64) -> Case {
     let random = &mut Random::for_case(seed ^ 2, index);
@@ -52,11 +45,6 @@ pub fn prefixed(seed: u64, index: u64) -> Case {
 /// A case beside those of [`case`]: sets of several words.
 pub fn bordered(seed: u64, index: u64) -> Case {
     bordered::case(&mut Random::for_case(seed ^ 3, index))
-}
-
-/// A case beside those of [`case`]: around the limits of a decision.
-pub fn small(seed: u64, index: u64) -> Case {
-    small::case(&mut Random::for_case(seed ^ 5, index))
 }
 
 /// A formula that can be saturated fast, sometimes with bits anywhere in the words
@@ -80,7 +68,7 @@ fn small_formula(random: &mut Random) -> Draft {
     }
 }
 
-pub fn text_of(draft: &Draft, random: &mut Random) -> Vec<u8> {
+pub(crate) fn text_of(draft: &Draft, random: &mut Random) -> Vec<u8> {
     if random.chance(50) {
         draft.loose(random)
     } else {

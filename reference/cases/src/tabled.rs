@@ -57,7 +57,7 @@ fn stated(label: &str, line: &str, records: Vec<u8>, text: String) -> Case {
 }
 
 /// Steps such as `1 1 2 3, 2 3 0 1 *4`.
-pub fn words(steps: &str) -> Vec<Words> {
+fn words(steps: &str) -> Vec<Words> {
     let each = steps.split(',').filter(|step| !step.trim().is_empty());
     each.flat_map(|step| {
         let (step, times) = step.split_once('*').unwrap_or((step, "1"));

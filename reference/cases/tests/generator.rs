@@ -6,7 +6,7 @@ use std::sync::OnceLock;
 
 use cases::case::Case;
 use cases::container::{lines, pack, unpack};
-use cases::{decided, fixed, generate, numbered, seeded, stepped, tidied};
+use cases::{fixed, generate, numbered, seeded, stepped, tidied};
 use checker::calls::Lent;
 use checker::limits::{RECORD, TIDY_BYTES};
 use checker::refusal::Number;
@@ -171,47 +171,6 @@ fn the_steps_are_up_to_date() {
 fn the_tidy_texts_are_up_to_date() {
     let cases = tidied::cases();
     assert_stored("tidy_test", &cases, &tidied::printed(&cases));
-}
-
-/// `cases --decisions crates/decide_test` makes the two files again.
-#[test]
-fn the_decisions_are_up_to_date() {
-    let cases = decided::cases();
-    assert_stored("decide_test", &cases, &decided::printed(&cases));
-}
-
-/// The lines stated by hand, each on tables that the case before left.
-#[test]
-fn decisions_are_as_stated() {
-    let stated = decided::stated();
-    let cases: Vec<Case> = stated.iter().map(|(case, _)| case.clone()).collect();
-    let printed = decided::printed(&cases);
-    let told: Vec<&str> = printed.lines().collect();
-    assert_eq!(told.len(), 2 * stated.len());
-    for ((case, line), told) in stated.iter().zip(told.chunks(2)) {
-        assert_eq!(told, [case.label.as_str(), *line]);
-    }
-}
-
-/// The seeded ones have every answer, and many families that are not 0; some stand
-/// behind forks, derived clauses and refutations.
-#[test]
-fn seeded_decisions_are_mixed() {
-    let cases = decided::cases();
-    let cases = &cases[decided::stated().len()..];
-    let printed = decided::printed(cases);
-    let told: Vec<&str> = printed.lines().skip(1).step_by(2).collect();
-    let of = |front: &str| told.iter().filter(|line| line.starts_with(front)).count();
-    assert!(of("true 0") + 6 < of("true "), "{told:?}");
-    assert_eq!((of("true "), of("false"), of("refused 31")), (12, 8, 2));
-    let forked = cases
-        .iter()
-        .filter(|case| case.records.chunks(16).any(|r| r[0] == 3));
-    let refuted = cases
-        .iter()
-        .filter(|case| case.expected.starts_with("refuted"));
-    let (forked, refuted) = (forked.count(), refuted.count());
-    assert!(forked > 3 && refuted > 3, "{forked} {refuted}");
 }
 
 /// `cases --numbers crates/lines_test` makes the two files again.

@@ -1,10 +1,9 @@
 //! Document 01, "The four lent tables" and the effects stated at the end of
-//! "Numbers of refusal", with Notes 1 and 8 of document 02: what each call does to
-//! the tables, the state and the output that are lent to it.
+//! "Numbers of refusal", with Note 1 of document 02: what each call does to the
+//! tables, the state and the output that are lent to it.
 
 use std::ops::Range;
 
-use crate::decide::{self, Decision};
 use crate::refusal::{FormulaRefusal, Number};
 use crate::state::{Counts, State};
 use crate::tables::{export, Tables};
@@ -101,10 +100,5 @@ impl Lent {
         let front = out.get_mut(..text.len()).ok_or(Number::ShortOutput)?;
         front.copy_from_slice(text.as_bytes());
         Ok(text.len())
-    }
-
-    /// Decides the formula: true with the first family, false, or 1, 2, 31.
-    pub fn decide(&self) -> Result<Decision, Number> {
-        decide::decide(&self.state()?)
     }
 }

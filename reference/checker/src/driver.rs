@@ -1,9 +1,8 @@
-//! Document 01, "The four lent tables", its last paragraph, with Notes 1, 6 and 8
-//! of document 02: the driver's calls over byte buffers, each table as its entries in
+//! Document 01, "The four lent tables", its last paragraph, with Notes 1 and 6 of
+//! document 02: the driver's calls over byte buffers, each table as its entries in
 //! little-endian bytes and the state as its eight counts of 16 bits.
 
 use crate::calls::Lent;
-use crate::decide::Decision;
 use crate::limits;
 use crate::refusal::{FormulaRefusal, Number};
 use crate::state::Counts;
@@ -99,10 +98,5 @@ impl Buffers {
     /// Writes the tidy text to the front of the output: its length, or 1, 2, 30.
     pub fn write(&self, out: &mut [u8]) -> Result<usize, Number> {
         self.lent()?.write(out)
-    }
-
-    /// Decides the formula: true with the first family, false, or 1, 2, 31.
-    pub fn decide(&self) -> Result<Decision, Number> {
-        self.lent()?.decide()
     }
 }

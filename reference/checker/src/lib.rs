@@ -10,7 +10,6 @@
 
 pub mod calls;
 pub mod clause;
-pub mod decide;
 pub mod driver;
 pub mod formula;
 pub mod limits;

@@ -1,6 +1,6 @@
 //! Document 01, "The four lent tables", "Formula text" and "Numbers of
 //! refusal", with Note 6 of document 02: the limits, each named once, and what
-//! they make of its Note 1; and the limits of its Note 8.
+//! they make of its Note 1.
 
 /// Bytes of a formula text.
 pub const TEXT_BYTES: usize = 32_768;
@@ -27,7 +27,3 @@ pub const DIGITS: usize = 5;
 /// Bytes of an output that is long enough for every tidy text; the longest has
 /// 310,183 (`tests/tidy.rs`).
 pub const TIDY_BYTES: usize = 311_296;
-/// Universals of a formula that is decided.
-pub const DECIDED_UNIVERSALS: usize = 4;
-/// Bits of its function tables.
-pub const DECIDED_BITS: usize = 16;

@@ -1,9 +1,7 @@
 //! The verdict's line, then each clause and each variable, then the tidy text and
-//! its length, then what the formula is decided to be: what the driver in C++ of
-//! examples/driver.cpp prints.
+//! its length: what the driver in C++ of examples/driver.cpp prints.
 
 use crate::clause::numbers_of;
-use crate::decide::{decide, Decision};
 use crate::state::State;
 use crate::tidy;
 use crate::verdict::Verdict;
@@ -24,11 +22,5 @@ pub fn listed(text: &[u8], records: &[u8]) -> String {
         lines += &format!("variable {number}: kind {kind}, universals {universals}\n");
     }
     let text = tidy::text(&state);
-    lines += &format!("text, {} bytes:\n{text}", text.len());
-    lines += &match decide(&state) {
-        Ok(Decision::True(family)) => format!("decided: true {family}\n"),
-        Ok(Decision::False) => "decided: false\n".into(),
-        Err(number) => format!("decided: refused {number}\n"),
-    };
-    lines
+    lines + &format!("text, {} bytes:\n{text}", text.len())
 }

@@ -1,8 +1,7 @@
 //! Document 01, "The line printed": `check DIR` reads `formula.dq` and
 //! `steps.bin` in DIR and prints the one line; `check --listed DIR` prints each
-//! clause, each variable, the tidy text and the decision behind it. `check --tidy FILE` prints
-//! the tidy text of a formula. `check --decide DIR` reads `formula.dq` in DIR and
-//! prints what it is decided to be.
+//! clause, each variable and the tidy text behind it. `check --tidy FILE` prints
+//! the tidy text of a formula.
 
 #![forbid(unsafe_code)]
 
@@ -34,12 +33,8 @@ fn main() -> ExitCode {
         [option, file] if option == "--tidy" => {
             print!("{}", checker::tidy::tidied(&bytes_of(file.as_ref())));
         }
-        [option, directory] if option == "--decide" => {
-            let (text, _) = both_of(directory.as_ref());
-            println!("{}", checker::decide::decided(&text));
-        }
         _ => {
-            eprintln!("usage: check [--listed] DIR | check --tidy FILE | check --decide DIR");
+            eprintln!("usage: check [--listed] DIR | check --tidy FILE");
             return ExitCode::from(2);
         }
     }

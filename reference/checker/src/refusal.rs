@@ -1,4 +1,4 @@
-//! Document 01, "Numbers of refusal", and document 02, Notes 1, 4 and 8.
+//! Document 01, "Numbers of refusal", and document 02, Notes 1 and 4.
 
 use std::fmt;
 
@@ -42,8 +42,6 @@ pub enum Number {
     Comparable,
     /// The output is lent shorter than the text.
     ShortOutput,
-    /// The formula is above the limits of those that are decided.
-    TooLarge,
 }
 
 impl Number {
@@ -68,7 +66,6 @@ impl Number {
             Number::Masks => 28,
             Number::Comparable => 29,
             Number::ShortOutput => 30,
-            Number::TooLarge => 31,
         }
     }
 

@@ -1,4 +1,4 @@
-//! Document 01, "The line printed", and document 02, Notes 1, 4 and 8: the program
+//! Document 01, "The line printed", and document 02, Notes 1 and 4: the program
 //! `check`.
 
 use std::fs;
@@ -74,22 +74,4 @@ fn a_tidy_text() {
     assert_eq!(tidy("refused"), "formula 2 12\n");
     assert_eq!(tidy("long"), "formula 0 11\n");
     assert_eq!(tidy("missing"), "formula 1 10\n");
-}
-
-#[test]
-fn a_decision() {
-    let decide = |text: &[u8]| {
-        let folder = folder("decide", &[("formula.dq", text)]);
-        printed_for(&[Path::new("--decide"), &folder])
-    };
-    assert_eq!(decide(EXAMPLE), "false\n");
-    assert_eq!(
-        decide(b"p cnf 2 2\na 1 0\ne 2 0\n1 -2 0\n-1 2 0\n"),
-        "true 2\n"
-    );
-    assert_eq!(decide(b"p cnf 5 0\na 1 2 3 4 5 0\n"), "formula 0 31\n");
-    assert_eq!(decide(b"p cnf 1 0\n1 0\n"), "formula 2 12\n");
-    let missing = folder("decide", &[]);
-    let missing = printed_for(&[Path::new("--decide"), &missing]);
-    assert_eq!(missing, "formula 1 10\n");
 }

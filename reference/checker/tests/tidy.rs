@@ -345,5 +345,5 @@ fn the_header_names_the_size() {
     let path = concat!(env!("CARGO_MANIFEST_DIR"), "/../../include/kefthrun.h");
     let header = std::fs::read_to_string(path).unwrap();
     assert!(header.contains(&format!(" KEFTHRUN_TIDY_BYTES = {TIDY_BYTES} ")));
-    assert!(header.contains(" KEFTHRUN_OUTPUT_TOO_SHORT = 30, "));
+    assert!(header.contains(" KEFTHRUN_OUTPUT_TOO_SHORT = 30 "));
 }

@@ -1,5 +1,5 @@
-//! Document 01, "The refutation statement", with Notes 3 and 8 of document 02:
-//! decides small formulas by their meaning, with no rule of any calculus.
+//! Document 01, "The refutation statement", with Note 3 of document 02: decides
+//! small formulas by their meaning, with no rule of any calculus.
 //!
 //! It has a reader of its own for accepted texts, so that what it decides is
 //! what the text says and not what the checker made of it.
@@ -12,9 +12,6 @@ use std::collections::{BTreeMap, BTreeSet};
 pub const BITS: u32 = 20;
 /// The most universals in clauses.
 pub const UNIVERSALS: usize = 12;
-/// The limits of Note 8, which count all that is declared.
-pub const FIRST_BITS: usize = 16;
-pub const FIRST_UNIVERSALS: usize = 4;
 
 /// A formula as its text says it.
 #[derive(Clone, Debug, Default, PartialEq, Eq)]
@@ -209,50 +206,6 @@ impl Meaning {
         Some((0..1u64 << bits).any(holds))
     }
 
-    /// A setting of some universals as its word: a universal has the bit of its
-    /// place in the order of declaration.
-    fn word(&self, setting: &Setting) -> u32 {
-        let places = self.universals.iter().zip(0..);
-        let ones = places.filter(|(universal, _)| setting.get(universal) == Some(&true));
-        ones.map(|(_, place)| 1 << place).sum()
-    }
-
-    /// Every function-table entry of every declared existential in the order of
-    /// Note 8: by variable, then by the setting's word.
-    fn ordered(&self) -> Vec<(u32, Setting)> {
-        let each = self.existentials.iter().flat_map(|(&variable, set)| {
-            let inputs = settings(set).into_iter();
-            inputs.map(move |input| (variable, input))
-        });
-        let mut entries: Vec<(u32, Setting)> = each.collect();
-        entries.sort_by_key(|(variable, input)| (*variable, self.word(input)));
-        entries
-    }
-
-    /// The first family in the numbering of Note 8 that makes every clause true at
-    /// every setting, `None` in it if there is none; `None` above the limits.
-    ///
-    /// The bits are chosen from the highest on, 0 before 1, so that the first
-    /// family that is found has the least number.
-    pub fn first(&self) -> Option<Option<u64>> {
-        if self.universals.len() > FIRST_UNIVERSALS {
-            return None;
-        }
-        let entries = self.ordered();
-        if entries.len() > FIRST_BITS {
-            return None;
-        }
-        let places: BTreeMap<(u32, Setting), u32> = entries.iter().cloned().zip(0..).collect();
-        let all = settings(&self.universals);
-        let pairs = all
-            .iter()
-            .flat_map(|setting| self.clauses.iter().map(move |clause| (clause, setting)));
-        let instances =
-            pairs.filter_map(|(clause, setting)| self.instance(clause, setting, &places));
-        let instances: BTreeSet<Instance> = instances.collect();
-        Some(chosen(&instances, entries.len() as u32, 0))
-    }
-
     /// The value of a literal at a setting under a family.
     fn value(&self, literal: i32, setting: &Setting, family: &Family) -> bool {
         let variable = literal.unsigned_abs();
@@ -281,27 +234,6 @@ impl Meaning {
         }
         family
     }
-}
-
-/// The least family with the given bits from `free` on that meets all instances.
-fn chosen(instances: &BTreeSet<Instance>, free: u32, family: u64) -> Option<u64> {
-    let open = (1u64 << free) - 1;
-    let can_hold = |i: &Instance| {
-        let some = family & i.wanted_true | !family & i.wanted_false;
-        (some | (i.wanted_true | i.wanted_false) & open) != 0
-    };
-    if !instances.iter().all(can_hold) {
-        return None;
-    }
-    let Some(next) = free.checked_sub(1) else {
-        return Some(family);
-    };
-    chosen(instances, next, family).or_else(|| chosen(instances, next, family | 1 << next))
-}
-
-/// The first family of an accepted text, as [`Meaning::first`] tells it.
-pub fn first(text: &[u8]) -> Option<Option<u64>> {
-    meaning(&String::from_utf8_lossy(text)).first()
 }
 
 /// Whether the formula of an accepted text is true; `None` if it is too large.
@@ -374,27 +306,6 @@ mod tests {
         assert_eq!(decided("d 257 64", 2), Some(true));
         assert_eq!(decided("d 257 65", 2), Some(false));
         assert_eq!(decided("e 257", 4), Some(false));
-    }
-
-    /// By hand, from Note 8.
-    #[test]
-    fn the_first_family() {
-        assert_eq!(first(b"p cnf 0 0\n"), Some(Some(0)));
-        assert_eq!(first(b"p cnf 0 1\n0\n"), Some(None));
-        assert_eq!(first(FALSE), Some(None));
-        assert_eq!(first(TRUE), Some(Some(1)));
-        let text = b"p cnf 4 2\na 3 1 0\ne 4 0\n-3 4 0\n3 -4 0\n";
-        assert_eq!(first(text), Some(Some(10)));
-        let text = b"p cnf 4 2\na 3 1 0\ne 4 0\n-1 4 0\n1 -4 0\n";
-        assert_eq!(first(text), Some(Some(12)));
-        assert_eq!(first(b"p cnf 3 1\ne 3 2 0\n3 0\n"), Some(Some(2)));
-        assert_eq!(first(b"p cnf 3 1\ne 3 2 0\n2 0\n"), Some(Some(1)));
-        assert_eq!(
-            first(b"p cnf 5 1\na 1 2 3 4 0\ne 5 0\n5 0\n"),
-            Some(Some(65_535))
-        );
-        assert_eq!(first(b"p cnf 6 0\na 1 2 3 4 0\ne 5 0\nd 6 0\n"), None);
-        assert_eq!(first(b"p cnf 5 0\na 1 2 3 4 5 0\n"), None);
     }
 
     #[test]

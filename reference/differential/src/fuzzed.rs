@@ -1,8 +1,8 @@
 //! Scenarios from the bytes of a fuzzer.
 //!
 //! An input is a text, a 0 byte and records: the text is loaded and the records
-//! are run twice over used buffers, with questions, writes and decisions between. A
-//! write's output is long enough, or of a length that the input's length tells.
+//! are run twice over used buffers, with questions and writes between. A write's
+//! output is long enough, or of a length that the input's length tells.
 //!
 //! An input whose first byte is 128 or more, which begins no text, changes what
 //! is lent. Its three lowest bits choose a buffer that is lent short (5 to 7:
@@ -55,14 +55,12 @@ fn loaded(input: &[u8]) -> Scenario {
         Call::Load(text),
         Call::Variable(variable),
         Call::Write(input.len() % 256),
-        Call::Decide,
         Call::Run(records.clone()),
         Call::Show(clause),
         Call::Run(records),
         Call::Clause(clause),
         Call::Variable(variable),
         Call::Write(long_enough(input)),
-        Call::Decide,
     ];
     Scenario {
         label: "an input of the fuzzer".into(),
@@ -91,11 +89,9 @@ fn changed(short: u8, less: u8, changes: &[u8], input: &[u8]) -> Scenario {
         Call::Clause(clause),
         Call::Variable(variable),
         Call::Write(long_enough(input)),
-        Call::Decide,
         Call::Run(records.clone()),
         Call::Show(clause + 1),
         Call::Write(input.len() % 256),
-        Call::Decide,
         Call::Load(text),
         Call::Run(records),
     ];

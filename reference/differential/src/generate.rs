@@ -1,9 +1,9 @@
 //! Seeded scenarios: texts with records over used buffers, well-formed tables,
 //! nearly well-formed ones, noise, and buffers that are too short. In many of them
-//! tidy texts are written, and in many formulas are decided.
+//! tidy texts are written.
 
 use cases::case::Case;
-use cases::lent::{damaged, damaged_small, small, well_formed, LentCase};
+use cases::lent::{damaged, well_formed, LentCase};
 use cases::random::Random;
 use cases::seeded;
 use checker::driver::{Buffers, SIZES};
@@ -30,7 +30,6 @@ impl Scenarios {
             return Some(case.clone());
         }
         match self.choice(index) {
-            0..=59 if self.is_small(index) => Some(seeded::small(self.seed, index)),
             0..=59 => Some(seeded::case(self.seed, index)),
             _ if self.has_large_prefix(index) => Some(seeded::prefixed(self.seed, index)),
             65..=74 => Some(seeded::bordered(self.seed, index)),
@@ -47,32 +46,17 @@ impl Scenarios {
         matches!(self.choice(index), 60..=64)
     }
 
-    /// Whether the formula is around the limits of a decision. Such scenarios stand
-    /// in the place of some of permitted steps and of some damaged tables.
-    fn is_small(&self, index: u64) -> bool {
-        let fixed = self.fixed.len() as u64;
-        match self.choice(index) {
-            _ if index < fixed => false,
-            30..=59 => seeded::is_permitted(self.seed, index),
-            75..=99 => Random::for_case(self.seed ^ 6, index).chance(40),
-            _ => false,
-        }
-    }
-
     pub fn scenario(&self, index: u64) -> Scenario {
         let random = &mut Random::for_case(!self.seed, index);
         let (label, buffers, calls) = match self.case(index) {
             Some(case) => text_and_records(case, random),
-            None => tables(self.seed, index, self.is_small(index), random),
+            None => tables(self.seed, index, random),
         };
         let calls = if self.has_large_prefix(index) || random.chance(40) {
             with_writes(&buffers, calls, random)
         } else {
             calls
         };
-        let random = &mut Random::for_case(self.seed ^ 5, !index);
-        let percent = if self.is_small(index) { 80 } else { 25 };
-        let calls = with_decisions(calls, percent, random);
         Scenario {
             label: format!("seed {} number {index}: {label}", self.seed),
             buffers,
@@ -113,12 +97,10 @@ fn text_and_records(case: Case, random: &mut Random) -> Parts {
 }
 
 /// Runs and questions on tables that no load has made.
-fn tables(seed: u64, index: u64, is_small: bool, random: &mut Random) -> Parts {
+fn tables(seed: u64, index: u64, random: &mut Random) -> Parts {
     let choice = random.below(10);
     let (label, LentCase { lent, records }) = match choice {
         0..=2 => ("well-formed tables", well_formed(seed, index)),
-        3..=5 if is_small => ("small well-formed tables", small(seed, index)),
-        _ if is_small => ("small damaged tables", damaged_small(seed, index)),
         _ => ("damaged tables", damaged(seed, index)),
     };
     let [literals, ends, sets, kinds] = lent.tables.bytes();
@@ -169,23 +151,6 @@ fn with_writes(buffers: &Buffers, calls: Vec<Call>, random: &mut Random) -> Vec<
     if !text.is_empty() {
         all.extend([Call::Write(text.len()), Call::Load(text.clone())]);
         all.push(Call::Write(text.len()));
-    }
-    all
-}
-
-/// Puts decisions before the first call and behind those that change tables or
-/// refuse them, each with a chance.
-fn with_decisions(calls: Vec<Call>, percent: usize, random: &mut Random) -> Vec<Call> {
-    let mut all = Vec::new();
-    if random.chance(percent) {
-        all.push(Call::Decide);
-    }
-    for call in calls {
-        let changes = matches!(call, Call::Load(_) | Call::Run(_));
-        all.push(call);
-        if changes && random.chance(percent) {
-            all.push(Call::Decide);
-        }
     }
     all
 }

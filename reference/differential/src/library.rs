@@ -13,7 +13,6 @@ pub trait Library {
     fn clause(&mut self, lent: Shared, clause: u32) -> u64;
     fn variable(&mut self, lent: Shared, variable: u32) -> u64;
     fn write(&mut self, out: &mut [u8], lent: Shared) -> u64;
-    fn decide(&mut self, lent: Shared) -> u64;
 }
 
 /// A call that only reads and has no output; 0 for another.
@@ -22,7 +21,6 @@ pub fn ask(library: &mut impl Library, lent: Shared, question: &Call) -> u64 {
         Call::Show(clause) => library.show(lent, clause),
         Call::Clause(clause) => library.clause(lent, clause),
         Call::Variable(variable) => library.variable(lent, variable),
-        Call::Decide => library.decide(lent),
         Call::Load(_) | Call::Run(_) | Call::Write(_) => 0,
     }
 }
@@ -71,28 +69,12 @@ impl Library for Lean {
     fn write(&mut self, out: &mut [u8], lent: Shared) -> u64 {
         lean::write(out, lent)
     }
-
-    fn decide(&mut self, lent: Shared) -> u64 {
-        lean::decide(lent)
-    }
 }
 
 /// The calls of the fast checker that only read, for a library that has another load
 /// or run.
 #[macro_export]
 macro_rules! reads_as_lean {
-    () => {
-        $crate::asks_as_lean!();
-
-        fn decide(&mut self, lent: $crate::library::Shared) -> u64 {
-            $crate::library::Lean.decide(lent)
-        }
-    };
-}
-
-/// The same without the decision, for a library that has another one.
-#[macro_export]
-macro_rules! asks_as_lean {
     () => {
         fn show(&mut self, lent: $crate::library::Shared, clause: u32) -> u64 {
             $crate::library::Lean.show(lent, clause)

@@ -1,6 +1,5 @@
 //! What each call must answer and leave, by the reference checker.
 
-use checker::decide::Decision;
 use checker::driver::Buffers;
 use checker::refusal::Number;
 use checker::verdict::Verdict;
@@ -47,11 +46,6 @@ pub fn answer(buffers: &mut Buffers, call: &Call, out: &mut [u8]) -> u64 {
         Call::Write(_) => asked(buffers.write(out), |length| {
             [length & 0xFFFF, length >> 16, 0]
         }),
-        Call::Decide => match buffers.decide() {
-            Ok(Decision::True(family)) => word(1, [family as usize, 0, 0]),
-            Ok(Decision::False) => word(2, [0, 0, 0]),
-            Err(refused) => word(3, [number(refused), 0, 0]),
-        },
     }
 }
 

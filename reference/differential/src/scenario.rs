@@ -3,7 +3,7 @@
 //!
 //! The file is text: a line with the label, five lines `buffer HEX` (literals,
 //! ends, sets, kinds, state), then a line for each call: `load HEX`, `run HEX`,
-//! `show N`, `clause N`, `variable N`, `write N`, `decide`.
+//! `show N`, `clause N`, `variable N`, `write N`.
 
 use checker::driver::Buffers;
 
@@ -16,8 +16,6 @@ pub enum Call {
     Variable(u32),
     /// The tidy text, over an output of so many bytes.
     Write(usize),
-    /// What the formula is decided to be.
-    Decide,
 }
 
 #[derive(Clone, Debug, PartialEq, Eq)]
@@ -57,14 +55,10 @@ impl Call {
             Call::Clause(clause) => format!("clause {clause}"),
             Call::Variable(variable) => format!("variable {variable}"),
             Call::Write(length) => format!("write {length}"),
-            Call::Decide => "decide".into(),
         }
     }
 
     fn of_line(line: &str) -> Option<Call> {
-        if line == "decide" {
-            return Some(Call::Decide);
-        }
         let (name, value) = line.split_once(' ')?;
         match name {
             "load" => bytes(value).map(Call::Load),
@@ -142,12 +136,10 @@ mod tests {
                 Call::Clause(0),
                 Call::Variable(7),
                 Call::Write(70_000),
-                Call::Decide,
             ],
         };
         let file = scenario.to_file();
         assert!(file.contains("\nbuffer 00ff\n"), "{file}");
-        assert!(file.ends_with("\nwrite 70000\ndecide\n"), "{file}");
         assert_eq!(Scenario::of_file(&file), Some(scenario));
         assert_eq!(Scenario::of_file("label\nbuffer 0\n"), None);
     }

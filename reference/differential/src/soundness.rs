@@ -1,6 +1,5 @@
-//! Document 01, "The refutation statement", and document 02, Note 8: nothing that is
-//! true is ever refuted, by any checker of texts and records, and nothing that is
-//! refuted is called true.
+//! Document 01, "The refutation statement": nothing that is true is ever refuted,
+//! by any checker of texts and records.
 
 use std::collections::BTreeSet;
 
@@ -27,25 +26,6 @@ pub struct Tally {
     pub decided_false: usize,
     pub refuted: usize,
     pub refuted_with_forks: usize,
-    /// What the checker itself decides.
-    pub called_true: usize,
-    pub called_false: usize,
-}
-
-impl Refuted {
-    /// Panics where the answers on a formula that is true or false cannot be right.
-    fn judge(&self, is_true: bool, text: &[u8]) {
-        let shown = String::from_utf8_lossy(text);
-        let wrong = [
-            (is_true && self.ever, "true and refuted"),
-            (self.called_true && self.ever, "called true and refuted"),
-            (self.called_true && !is_true, "called true and false"),
-            (self.called_false && is_true, "called false and true"),
-        ];
-        for (found, what) in wrong {
-            assert!(!found, "{what}:\n{shown}");
-        }
-    }
 }
 
 /// What a checker answers on a text and a list of steps.
@@ -55,14 +35,10 @@ pub struct Refuted {
     pub ever: bool,
     /// Every run that has seen the whole list answers refuted.
     pub at_the_end: bool,
-    /// Some decision answers true, some one false.
-    pub called_true: bool,
-    pub called_false: bool,
 }
 
 /// Small random formulas, decided by trying all families of functions, and lists
-/// of permitted steps on them. Panics where a formula that is true is refuted, or
-/// called something else than it is.
+/// of permitted steps on them. Panics where a formula that is true is refuted.
 pub fn tally(
     size: Size,
     seed: u64,
@@ -84,9 +60,8 @@ pub fn tally(
         prover.saturate(200);
         prover.wander(40);
         let refuted = refuted(&text, &records_of(&prover.steps));
-        refuted.judge(is_true, &text);
-        tally.called_true += usize::from(refuted.called_true);
-        tally.called_false += usize::from(refuted.called_false);
+        let shown = String::from_utf8_lossy(&text);
+        assert!(!(is_true && refuted.ever), "true and refuted:\n{shown}");
         tally.decided_true += usize::from(is_true);
         tally.decided_false += usize::from(!is_true);
         tally.refuted += usize::from(refuted.at_the_end);
@@ -107,21 +82,15 @@ pub fn searched(mut refuted: impl FnMut(&[u8], &[u8]) -> Refuted) -> [Tally; 3] 
     let most = sum(|t| t.decided_false) * 9;
     assert!(sum(|t| t.refuted) * 10 > most, "{tallies:?}");
     assert!(sum(|t| t.refuted_with_forks) > 30, "{tallies:?}");
-    assert!(sum(|t| t.called_true) > 500, "{tallies:?}");
-    assert!(sum(|t| t.called_false) > 1_000, "{tallies:?}");
     tallies
 }
 
-/// A library over buffers of the stated sizes, every run and decision of which is
-/// judged.
+/// A library over buffers of the stated sizes, every run of which is judged.
 struct Judged<'a, L: Library> {
     library: &'a mut L,
     buffers: Buffers,
     /// A run has answered refuted.
     refuted: bool,
-    /// A decision has answered true, or false.
-    called_true: bool,
-    called_false: bool,
 }
 
 impl<L: Library> Judged<'_, L> {
@@ -130,8 +99,6 @@ impl<L: Library> Judged<'_, L> {
             library,
             buffers: Buffers::zero(),
             refuted: false,
-            called_true: false,
-            called_false: false,
         }
     }
 
@@ -139,31 +106,9 @@ impl<L: Library> Judged<'_, L> {
         answer(self.library, &mut self.buffers, call, &mut [])
     }
 
-    /// Whether the text is accepted; its formula is decided.
+    /// Whether the text is accepted.
     fn loads(&mut self, text: &[u8]) -> bool {
-        let accepted = self.answer(&Call::Load(text.to_vec())) & 0xFFFF == 1;
-        if accepted {
-            self.decide();
-        }
-        accepted
-    }
-
-    /// What the formula is called; nothing if it is too large.
-    fn decide(&mut self) {
-        match self.answer(&Call::Decide) & 0xFFFF {
-            1 => self.called_true = true,
-            2 => self.called_false = true,
-            _ => (),
-        }
-    }
-
-    fn answers(&self, at_the_end: bool) -> Refuted {
-        Refuted {
-            ever: self.refuted,
-            at_the_end,
-            called_true: self.called_true,
-            called_false: self.called_false,
-        }
+        self.answer(&Call::Load(text.to_vec())) & 0xFFFF == 1
     }
 
     /// The case of a run: 1 refuted, 2 open, 3 bad.
@@ -274,14 +219,14 @@ fn short_steps(clauses: &[Vec<i32>]) -> Vec<Step> {
     steps
 }
 
-/// What a library answers on the text with steps that are tried without regard to
-/// what is permitted: some at random, then short ones in rounds, each step in a run
-/// of its own. Then all of them as one list, and the accepted ones as one list, each
-/// on the text loaded again. Behind each load and each list the formula is decided.
-pub fn refutes_at_random(library: &mut impl Library, text: &[u8], random: &mut Random) -> Refuted {
+/// Whether any run of a library on the text answers refuted, by steps that are
+/// tried without regard to what is permitted: some at random, then short ones in
+/// rounds, each step in a run of its own. Then all of them as one list, and the
+/// accepted ones as one list, each on the text loaded again.
+pub fn refutes_at_random(library: &mut impl Library, text: &[u8], random: &mut Random) -> bool {
     let mut judged = Judged::new(library);
     if !judged.loads(text) {
-        return Refuted::default();
+        return false;
     }
     let (mut tried, mut accepted) = (Vec::new(), Vec::new());
     let mut run = |judged: &mut Judged<_>, step: Step| {
@@ -305,17 +250,15 @@ pub fn refutes_at_random(library: &mut impl Library, text: &[u8], random: &mut R
         }
     }
     judged.run(&[]);
-    judged.decide();
     for list in [tried, accepted] {
         judged.loads(text);
         judged.run(&list);
-        judged.decide();
     }
-    judged.answers(false)
+    judged.refuted
 }
 
 /// True formulas with such steps; how many there were. Panics where a run on one
-/// answers refuted, or a decision false.
+/// answers refuted.
 pub fn tried_at_random(library: &mut impl Library) -> usize {
     let mut tried = 0;
     for index in 0..5_000 {
@@ -324,7 +267,9 @@ pub fn tried_at_random(library: &mut impl Library) -> usize {
         let draft = random_formula(random, size);
         let text = sometimes_spread(draft, SPREAD, random).plain();
         if decide(&text) == Some(true) {
-            refutes_at_random(library, &text, random).judge(true, &text);
+            let refuted = refutes_at_random(library, &text, random);
+            let shown = String::from_utf8_lossy(&text);
+            assert!(!refuted, "true and refuted:\n{shown}");
             tried += 1;
         }
     }
@@ -333,8 +278,7 @@ pub fn tried_at_random(library: &mut impl Library) -> usize {
 }
 
 /// What a library answers: the steps one by one, then a run of no record; then
-/// the text loaded again, and the steps as one list. Behind each load and each list
-/// the formula is decided.
+/// the text loaded again, and the steps as one list.
 pub fn refutes(library: &mut impl Library, text: &[u8], records: &[u8]) -> Refuted {
     let mut judged = Judged::new(library);
     if !judged.loads(text) {
@@ -344,9 +288,10 @@ pub fn refutes(library: &mut impl Library, text: &[u8], records: &[u8]) -> Refut
         judged.run(record);
     }
     let one_by_one = judged.run(&[]) == 1;
-    judged.decide();
     judged.loads(text);
     let as_one_list = judged.run(records) == 1;
-    judged.decide();
-    judged.answers(one_by_one && as_one_list)
+    Refuted {
+        ever: judged.refuted,
+        at_the_end: one_by_one && as_one_list,
+    }
 }

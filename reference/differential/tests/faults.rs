@@ -243,10 +243,6 @@ impl Library for Faulty {
         let text = self.text(String::from_utf8(whole).expect("digits"), lent);
         self.written(out, text.as_bytes())
     }
-
-    fn decide(&mut self, lent: Shared) -> u64 {
-        Lean.decide(lent)
-    }
 }
 
 /// Tables and their text, for the faults of a write.

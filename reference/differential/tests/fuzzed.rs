@@ -43,20 +43,6 @@ fn writes(input: &[u8]) -> Vec<(u16, u16)> {
     found
 }
 
-/// The fields of each decision.
-fn decisions(input: &[u8]) -> Vec<[u16; 4]> {
-    let scenario = scenario(input);
-    let mut buffers = scenario.buffers;
-    let mut found = Vec::new();
-    for call in &scenario.calls {
-        let word = oracle::answer(&mut buffers, call, &mut call.output());
-        if let Call::Decide = call {
-            found.push(fields(word));
-        }
-    }
-    found
-}
-
 fn changed(front: &[u8]) -> Vec<u8> {
     [front, REST].concat()
 }
@@ -144,20 +130,4 @@ fn inputs_reach_sets_of_all_words() {
         told.contains(&("variable 299".into(), [1, 2, 256, 0])),
         "{told:?}"
     );
-}
-
-#[test]
-fn inputs_reach_decisions() {
-    assert_eq!(decisions(REST), [[2, 0, 0, 0]; 2]);
-    let text = b"p cnf 2 2\na 1 0\ne 2 0\n1 -2 0\n-1 2 0\n\0";
-    assert_eq!(decisions(text), [[1, 2, 0, 0]; 2]);
-    let large = b"p cnf 5 0\na 1 2 3 4 5 0\n";
-    assert_eq!(decisions(large), [[3, 31, 0, 0]; 2]);
-    assert_eq!(decisions(b"p cnf 1\n"), [[1, 0, 0, 0]; 2]);
-    // Literal 2 of clause 2 made 2: 2 is true at every setting.
-    let front = [133, 0, 2, 0, 6, 0, 2, 0, 7, 0, 0];
-    assert_eq!(decisions(&changed(&front)), [[1, 1, 0, 0]; 2]);
-    assert_eq!(decisions(&changed(&[128, 0, 0])), [[3, 1, 0, 0]; 2]);
-    let universals = &changed(&[133, 0, 1, 4, 4, 0, 2]);
-    assert_eq!(decisions(universals), [[3, 2, 0, 0]; 2]);
 }

@@ -27,7 +27,6 @@ fn outcome(call: &Call, word: u64) -> (&'static str, u16, u16) {
         Call::Clause(_) => ("clause", tag, if tag == 2 { first } else { 0 }),
         Call::Variable(_) => ("variable", tag, if tag == 2 { first } else { 0 }),
         Call::Write(_) => ("write", tag, if tag == 2 { first } else { 0 }),
-        Call::Decide => ("decide", tag, if tag == 3 { first } else { 0 }),
     }
 }
 
@@ -54,8 +53,6 @@ fn scenarios_reach_every_answer() {
     }
     wanted.insert(("write", 1, 0));
     wanted.extend([1, 2, 30].map(|number| ("write", 2, number)));
-    wanted.extend([("decide", 1, 0), ("decide", 2, 0)]);
-    wanted.extend([1, 2, 31].map(|number| ("decide", 3, number)));
     assert_eq!(found, wanted);
 }
 

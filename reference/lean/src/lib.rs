@@ -12,11 +12,9 @@
 //! | clause | length | 2, refused: number |
 //! | variable | kind, universals | 2, refused: number |
 //! | write | length of the text, its low and its high 16 bits | 2, refused: number |
-//! | decide | true: family | 2, false; 3, refused: number |
 
 #![forbid(unsafe_code)]
 
-mod decide;
 mod formed;
 mod sets;
 mod steps;
@@ -34,7 +32,7 @@ pub type Lent<'a> = [&'a mut [u8]; 5];
 pub type Shared<'a> = [&'a [u8]; 5];
 
 /// The number of the interface: KEFTHRUN_INTERFACE of include/kefthrun.h.
-pub const INTERFACE: u32 = 5;
+pub const INTERFACE: u32 = 4;
 
 /// The word of a tag and its values. A refusal of a step may have a variable in the
 /// 16 bits above its number, the last field.
@@ -115,17 +113,6 @@ pub fn write(out: &mut [u8], lent: Shared) -> u64 {
     match outcome {
         Ok(length) => word(1, length as u64 & 0xFFFF, length as u64 >> 16),
         Err(number) => word(2, number, 0),
-    }
-}
-
-/// Decides the formula: true with the first family, or false.
-pub fn decide(lent: Shared) -> u64 {
-    let mut tables = Tables::zero();
-    let outcome = tables.read(&lent).and_then(|()| decide::decide(&tables));
-    match outcome {
-        Ok(Some(family)) => word(1, family, 0),
-        Ok(None) => word(2, 0, 0),
-        Err(number) => word(3, number, 0),
     }
 }
 

@@ -82,30 +82,6 @@ reading!(kefthrun_variable, lean::variable);
 /// # Safety
 /// See the top of the crate.
 #[no_mangle]
-pub unsafe extern "C" fn kefthrun_decide(
-    literals: *const u8,
-    literals_length: usize,
-    ends: *const u8,
-    ends_length: usize,
-    sets: *const u8,
-    sets_length: usize,
-    kinds: *const u8,
-    kinds_length: usize,
-    state: *const u8,
-    state_length: usize,
-) -> u64 {
-    lean::decide([
-        from_raw_parts(literals, literals_length),
-        from_raw_parts(ends, ends_length),
-        from_raw_parts(sets, sets_length),
-        from_raw_parts(kinds, kinds_length),
-        from_raw_parts(state, state_length),
-    ])
-}
-
-/// # Safety
-/// See the top of the crate.
-#[no_mangle]
 pub unsafe extern "C" fn kefthrun_write(
     out: *mut u8,
     out_length: usize,

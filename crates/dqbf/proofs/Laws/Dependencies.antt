@@ -33,7 +33,7 @@ module _ (m : Model) where
       go (inl k) ih = (l, Memᴰ.head refl, k)
       go (inr k) ih = let d = ih k in (d.0, Memᴰ.tail d.1, d.2)
 
-  dep-from : {C : Clause} (i : ℕ) (l : ℤ) → l ∈ C → bit (set_of m (nat_abs l)) i ≡ true → bit (clause_set m C) i ≡ true
+  dep-from : (i : ℕ) (l : ℤ) {C : Clause} → l ∈ C → bit (set_of m (nat_abs l)) i ≡ true → bit (clause_set m C) i ≡ true
   unfolding clause_set
   dep-from i l (Memᴰ.head {x = k} {xs = C} e) h =
       bit-or (set_of m (nat_abs k)) (clause_set m C) i ∙ or_left (bit (set_of m (nat_abs k)) i) (bit (clause_set m C) i) (rw (← e) h)
@@ -133,7 +133,7 @@ reads-is m u k C = (to C, λ d. from d.0 d.1 d.2.1)
         go (inl h) ih = (l, Memᴰ.head refl, (k, h))
         go (inr h) ih = let d = ih h in (d.0, Memᴰ.tail d.1, d.2)
 
-    from : {C : Clause} (l : ℤ) → l ∈ C → inside s (set_of m (nat_abs l)) ≡ true → reads m s C ≡ true
+    from : (l : ℤ) {C : Clause} → l ∈ C → inside s (set_of m (nat_abs l)) ≡ true → reads m s C ≡ true
     from l (Memᴰ.head {x = y} {xs = C} q) h = or_left (inside s (set_of m (nat_abs y))) (reads m s C) (rw (← q) h)
     from l (Memᴰ.tail {x = y} {xs = C} q) h = or_right (inside s (set_of m (nat_abs y))) (reads m s C) (from l q h)
 

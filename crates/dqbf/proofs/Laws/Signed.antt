@@ -30,7 +30,7 @@ neg_is z f h = rw (to_z-of_z f, to_z-of_z (neg-fits z h)) (+ℤ_idl (neg_ℤ z))
 -- ---- a 16-bit number taken to 32 bits, where it can always be negated
 
 pub widened : {z : ℤ} → SFits w16 z → to_z w32 (of_z w32 (to_z w16 (of_z w16 z))) ≡ z
-widened f = rw (to_z-of_z f) (to_z-of_z (sfits_widen tt f))
+widened f = rw (to_z-of_z f) (to_z-of_z {w = w32} (sfits_widen tt f))
 
 pub neg-wide-fits : (z : ℤ) → SFits w16 z → SFits w32 (pos 0 -ℤ z)
 neg-wide-fits z f = rw (+ℤ_idl (neg_ℤ z)) (go z f.sfits)

@@ -143,9 +143,11 @@ unfolding line_words bytes is_empty
 header-words v c = keyword 112 (bytes "cnf" ∷ digits_of v ∷ digits_of c ∷ []) (omega arith) go
   where
     go : Words (bytes "cnf" ∷ digits_of v ∷ digits_of c ∷ [])
+    go w (Memᴰ.tail (Memᴰ.tail (Memᴰ.tail x12))) = elim x12 [ ]
     go w (Memᴰ.head e) = rw e (record { filled = refl; high = high })
       where
         high : (b : ℕ) → b ∈ bytes "cnf" → space < b
+        high b (Memᴰ.tail (Memᴰ.tail (Memᴰ.tail x14))) = elim x14 [ ]
         high b (Memᴰ.head e) = omega arith
         high b (Memᴰ.tail (Memᴰ.head e)) = omega arith
         high b (Memᴰ.tail (Memᴰ.tail (Memᴰ.head e))) = omega arith

@@ -30,6 +30,7 @@ use Rattle.dqbf.proofs.Spelling.Passing.{sorted-same}
 module _ (rule : ERule) where
   as-universal : (earlier all us : List ℕ) (ds : List Declaration) (x : ℕ) → x ∈ us → declared_as rule earlier all (map on_a us ++ ds) x ≡ universal
   unfolding declared_as
+  as-universal earlier all [] ds x x3 = elim x3 [ ]
   as-universal earlier all (y ∷ us) ds x (Memᴰ.head e) = rw (e, eqb_same y)
   as-universal earlier all (y ∷ us) ds x (Memᴰ.tail q) = go (eqb x y) (as-universal (earlier ++ (y ∷ [])) all us ds x q)
     where
@@ -47,6 +48,7 @@ module _ (rule : ERule) where
   module _ (f : ℕ → List ℕ) where
     as-existential : (all es : List ℕ) (x : ℕ) → x ∈ es → (earlier : List ℕ) → declared_as rule earlier all (map (λ y. on_d y (f y)) es) x ≡ existential (f x)
     unfolding declared_as
+    as-existential all [] x x3 earlier = elim x3 [ ]
     as-existential all (y ∷ es) x (Memᴰ.head e) earlier = rw (e, eqb_same y)
     as-existential all (y ∷ es) x (Memᴰ.tail q) earlier = go (eqb x y) refl (as-existential all es x q earlier)
       where

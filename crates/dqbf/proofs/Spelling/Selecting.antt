@@ -45,7 +45,7 @@ select_in P (y ∷ ys) x q = go (P y) refl q (λ k. select_in P ys x k)
     go true e (Memᴰ.tail p) ih = let r = ih p in (Memᴰ.tail r.0, r.1)
     go false e p ih = let r = ih p in (Memᴰ.tail r.0, r.1)
 
-pub in-select : (P : ℕ → Bool) {xs : List ℕ} (x : ℕ) → x ∈ xs → P x ≡ true → x ∈ select P xs
+pub in-select : (P : ℕ → Bool) (x : ℕ) {xs : List ℕ} → x ∈ xs → P x ≡ true → x ∈ select P xs
 unfolding select
 in-select P x (Memᴰ.head {x = y} {xs = ys} e) h = let t : P y ≡ true = rw e at h in rw t (Memᴰ.head e)
 in-select P x (Memᴰ.tail {x = y} {xs = ys} q) h = go (P y) (in-select P x q h)
@@ -63,7 +63,7 @@ select-once P (y ∷ ys) o = go (P y) (select-once P ys o.1)
     go true r = ((λ q. o.0 (select_in P ys y q).0), r)
     go false r = r
 
-pub first-in : (P : ℕ → Bool) {xs : List ℕ} (x : ℕ) → x ∈ xs → P x ≡ true → (first_of P xs ∈ xs) × (P (first_of P xs) ≡ true)
+pub first-in : (P : ℕ → Bool) (x : ℕ) {xs : List ℕ} → x ∈ xs → P x ≡ true → (first_of P xs ∈ xs) × (P (first_of P xs) ≡ true)
 unfolding first_of
 first-in P x (Memᴰ.head {x = y} {xs = ys} e) h = let t : P y ≡ true = rw e at h in rw t (Memᴰ.head refl, t)
 first-in P x (Memᴰ.tail {x = y} {xs = ys} q) h = go (P y) refl (first-in P x q h)

@@ -141,6 +141,7 @@ Numeric w = (b : ℕ) → b ∈ w → b ≤ 57
 
 all_digits-each : (w : List ℕ) → all_digits w ≡ true → (b : ℕ) → b ∈ w → (48 ≤ b) × (b ≤ 57)
 unfolding all_digits
+all_digits-each [] h b x'' = elim x'' [ ]
 all_digits-each (c ∷ w) h b (Memᴰ.head e) = rw e (leb_yes 48 c (and_left (leb 48 c) (leb c 57) front), leb_yes c 57 (and_right (leb 48 c) (leb c 57) front))
   where
     front : (leb 48 c && leb c 57) ≡ true

@@ -14,16 +14,14 @@ use Rattle.tables.specs.declared.State.{State}
 use Rattle.questions.specs.Answers.{length_answer, variable_answer}
 use Rattle.dqdimacs.specs.Loading.{load_of}
 use Rattle.steps.specs.Steps.{run_of}
-use Rattle.deciding.specs.Deciding.{Decision}
-use Rattle.decider.specs.Decisions.{decision_answer}
 use Rattle.formula_text.specs.Writing.{write_of}
 use Rattle.codec.specs.Bytes.{entries, literals_in, over}
 use Rattle.codec.specs.State as Codec
 use Rattle.buffers.specs.Buffers.{Buffers, buffers_of, state_whole, whole, tables_in, state_in}
-use Rattle.results.specs.Results.{packed, named_variable, load_result, run_result, clause_result, show_result, stretch_result, variable_result, write_result, decide_result}
+use Rattle.results.specs.Results.{packed, named_variable, load_result, run_result, clause_result, show_result, stretch_result, variable_result, write_result}
 use Rattle.buffers.proofs.Laws.{Sizes, whole-sizes}
 use Rattle.results.proofs.Laws.{stretch-shown}
-use Rattle.exports.specs.Calls.{After, loaded, load_short, load_bytes, ran, run_short, run_bytes, show_bytes, clause_bytes, variable_bytes, decide_bytes, AfterWriteBytes, wrote, write_short, write_bytes}
+use Rattle.exports.specs.Calls.{After, loaded, load_short, load_bytes, ran, run_short, run_bytes, show_bytes, clause_bytes, variable_bytes, AfterWriteBytes, wrote, write_short, write_bytes}
 
 not-true : (b : Bool) → not b ≡ true → b ≡ false
 not-true true h = sym h
@@ -73,23 +71,6 @@ module _ (b : Buffers) (out : List ℕ) {a : Bool} (told : a ≡ whole b) where
 
 -- ---- calls that write nothing
 
--- an answer about decoded tables is one about the tables in the buffers
-module _ (b : Buffers) {l : List ℤ} {e w : List ℕ} {s : State} (p : l ≡ literals_in literal_limit b.literals) (q : e ≡ entries 2 clause_limit b.ends)
-    (u : w ≡ entries 8 table_words b.sets) (v : s ≡ Codec.state_in b.state) where
-  held-answer : {A : Type 0} (f : Tables → State → A) {x : A} → x ≡ f (tables_of l e w b.kinds) s → x ≡ f (tables_in b) (state_in b)
-  unfolding tables_in state_in
-  held-answer f i = rw (p, q, u, v) at i
-
-module _ (b : Buffers) {a : Bool} (told : a ≡ whole b) where
-  pub decide-short : {r : ℕ} → not a ≡ true → r ≡ packed 3 1 0 0 → r ≡ decide_bytes b
-  unfolding decide_bytes decide_result
-  decide-short h e = rw (← told, not-true a h) e
-
-  pub decide-told : (h : not a ≡ false) {l : List ℤ} {e w : List ℕ} {s : State} → l ≡ literals_in literal_limit b.literals → e ≡ entries 2 clause_limit b.ends
-      → w ≡ entries 8 table_words b.sets → s ≡ Codec.state_in b.state → {x : Decision} {r : ℕ} → x ≡ decision_answer (tables_of l e w b.kinds) s → r ≡ decide_result x → r ≡ decide_bytes b
-  unfolding decide_bytes
-  decide-told h p q u v i g = rw (← told, not-false a h) (g ∙ ap decide_result (held-answer b p q u v decision_answer i))
-
 module _ (b : Buffers) (n : ℕ) {a : Bool} (told : a ≡ whole b) where
   module _ {r : ℕ} (h : not a ≡ true) (e : r ≡ packed 2 1 0 0) where
     pub clause-short : r ≡ clause_bytes b n
@@ -106,14 +87,19 @@ module _ (b : Buffers) (n : ℕ) {a : Bool} (told : a ≡ whole b) where
 
   module _ (h : not a ≡ false) {l : List ℤ} {e w : List ℕ} {s : State} (p : l ≡ literals_in literal_limit b.literals) (q : e ≡ entries 2 clause_limit b.ends)
       (u : w ≡ entries 8 table_words b.sets) (v : s ≡ Codec.state_in b.state) where
+    -- an answer about decoded tables is one about the tables in the buffers
+    held-answer : {A : Type 0} (f : Tables → State → ℕ → A) {x : A} → x ≡ f (tables_of l e w b.kinds) s n → x ≡ f (tables_in b) (state_in b) n
+    unfolding tables_in state_in
+    held-answer f i = rw (p, q, u, v) at i
+
     pub clause-told : {x : ClauseAnswer} {r : ℕ} → x ≡ length_answer (tables_of l e w b.kinds) s n → r ≡ clause_result x → r ≡ clause_bytes b n
     unfolding clause_bytes
-    clause-told i g = rw (← told, not-false a h) (g ∙ ap clause_result (held-answer b p q u v (λ t s. length_answer t s n) i))
+    clause-told i g = rw (← told, not-false a h) (g ∙ ap clause_result (held-answer length_answer i))
 
     pub variable-told : {x : VariableAnswer} {r : ℕ} → x ≡ variable_answer (tables_of l e w b.kinds) s n → r ≡ variable_result x → r ≡ variable_bytes b n
     unfolding variable_bytes
-    variable-told i g = rw (← told, not-false a h) (g ∙ ap variable_result (held-answer b p q u v (λ t s. variable_answer t s n) i))
+    variable-told i g = rw (← told, not-false a h) (g ∙ ap variable_result (held-answer variable_answer i))
 
     pub show-told : {x : ClauseAnswer} {start r : ℕ} → x ≡ length_answer (tables_of l e w b.kinds) s n → start ≡ entry e (n - 1) → r ≡ stretch_result start x → r ≡ show_bytes b n
     unfolding show_bytes tables_in
-    show-told i k g = rw (← told, not-false a h) (g ∙ rw (held-answer b p q u v (λ t s. length_answer t s n) i, k, q) (stretch-shown (tables_in b) (state_in b) n))
+    show-told i k g = rw (← told, not-false a h) (g ∙ rw (held-answer length_answer i, k, q) (stretch-shown (tables_in b) (state_in b) n))

@@ -11,12 +11,10 @@ use Rattle.dqdimacs.specs.Loading.{load_of}
 use Rattle.dqdimacs.specs.declared.LoadAnswer.{LoadAnswer}
 use Rattle.dqdimacs.specs.declared.LoadAnswer.TheVariants as Load
 use Rattle.steps.specs.Steps.{run_of}
-use Rattle.deciding.specs.Deciding.{Decision, true_by, no_family, undecided}
-use Rattle.decider.specs.Decisions.{decision_answer}
 use Rattle.formula_text.specs.Writing.{TextAnswer, text_length, no_text, write_of}
 use Rattle.buffers.specs.Buffers.{Buffers, whole, tables_in, state_in}
 use Rattle.results.specs.Results.{field, named_variable}
-use Rattle.exports.specs.Calls.{load_bytes, run_bytes, clause_bytes, variable_bytes, decide_bytes, write_bytes}
+use Rattle.exports.specs.Calls.{load_bytes, run_bytes, clause_bytes, variable_bytes, write_bytes}
 
 unfoldable pub fields : ℕ → List ℕ
 fields r = field 0 r ∷ field 1 r ∷ field 2 r ∷ field 3 r ∷ []
@@ -37,11 +35,6 @@ clause_fields (no_clause r) = 2 ∷ r.number ∷ 0 ∷ 0 ∷ []
 unfoldable pub variable_fields : VariableAnswer → List ℕ
 variable_fields (variable kind universals) = 1 ∷ kind ∷ universals ∷ 0 ∷ []
 variable_fields (no_variable r) = 2 ∷ r.number ∷ 0 ∷ 0 ∷ []
-
-unfoldable pub decide_fields : Decision → List ℕ
-decide_fields (true_by f) = 1 ∷ f ∷ 0 ∷ 0 ∷ []
-decide_fields no_family = 2 ∷ 0 ∷ 0 ∷ 0 ∷ []
-decide_fields (undecided r) = 3 ∷ r.number ∷ 0 ∷ 0 ∷ []
 
 unfoldable pub write_fields : TextAnswer → List ℕ
 write_fields (text_length n) = 1 ∷ n % 65536 ∷ n / 65536 ∷ 0 ∷ []
@@ -65,9 +58,6 @@ ClauseTells = (b : Buffers) (c : ℕ) → whole b ≡ true → fields (clause_by
 
 abbrev pub VariableTells : Type 0
 VariableTells = (b : Buffers) (x : ℕ) → whole b ≡ true → fields (variable_bytes b x) ≡ variable_fields (variable_answer (tables_in b) (state_in b) x)
-
-abbrev pub DecideTells : Type 0
-DecideTells = (b : Buffers) → whole b ≡ true → fields (decide_bytes b) ≡ decide_fields (decision_answer (tables_in b) (state_in b))
 
 abbrev pub WriteTells : Type 0
 WriteTells = (b : Buffers) (out : List ℕ) → whole b ≡ true → fields (write_bytes b out).result ≡ write_fields (write_of (tables_in b) (state_in b) out).answer

@@ -3,7 +3,7 @@
 -- Whatever the buffers hold, if the first field of a load's result is 1, the text is a formula's; and for every list of the driver's calls after it, each getting
 -- the buffers as the load or the call before left them, if the first field of a run's result is 1, no family makes the formula true. `load_bytes` and `run_bytes`
 -- (specs/Calls.antt) are what the contracts of `kefthrun_load` and `kefthrun_run` promise. Calls that write neither buffers of
--- tables nor the state (questions, shown clauses, a decision, a written formula) may stand between.
+-- tables nor the state (questions, shown clauses, a written formula) may stand between.
 use Rattle.std.specs.Prelude.{◌≡◌, List, [], ◌∷◌, ℕ}
 use Rattle.dqbf.specs.Literal.{◌∈◌}
 use Rattle.dqbf.specs.Formula.{Formula}

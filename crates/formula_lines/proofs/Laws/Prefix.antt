@@ -16,8 +16,7 @@ use Rattle.dqbf.specs.Spelled.{select, is_existential, existentials, a_lines, d_
 use Rattle.dqbf.specs.Bytes.{bytes}
 use Rattle.words.specs.Laid.{laid, Fits, Wrote}
 use Rattle.words.specs.Listed.{listed}
-use Rattle.tables.specs.FormulaEntries.{declarations}
-use Rattle.formula_lines.specs.Working.{universal_names, is_in, members_in, universal_with, declared_from}
+use Rattle.formula_lines.specs.Working.{declarations, universal_names, is_in, members_in, universal_with, declared_from}
 use Rattle.words.proofs.Laws.Laid.{Writing, writing_start, writing-next, writing-fits}
 use Rattle.words.proofs.Laws.Words.{with_space}
 use Rattle.words.proofs.Laws.Listed.{listed_more, a-text}

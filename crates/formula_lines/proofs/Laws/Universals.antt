@@ -16,8 +16,7 @@ use Rattle.dqbf.specs.Set.{Set, single, inside}
 use Rattle.dqbf.specs.Model.{Model, kind_of, set_of, numbers, universals_in}
 use Rattle.dqbf.specs.Spelled.{select, first_of, is_universal, is_at, universal_at, universals_from, is_member, members_of}
 use Rattle.tables.specs.Tables.{entry}
-use Rattle.tables.specs.FormulaEntries.{declarations}
-use Rattle.formula_lines.specs.Working.{universal_names, is_in, members_in, is_with, universal_with, declared_from}
+use Rattle.formula_lines.specs.Working.{declarations, universal_names, is_in, members_in, is_with, universal_with, declared_from}
 use Rattle.formula_lines.proofs.Laws.Walks.{variables-walk, select-taken, select-passed, select-none}
 
 -- ---- two tests, one behind the other

@@ -15,7 +15,7 @@ use borrow.Author.Tests.{leb-true, leb-false}
 use lib.Dec.{eqb, leb}
 use lib.IntN.{ℤ, pos, negsuc, nat_abs}
 use lib.ListN.{length, length-append}
-use Rattle.dqbf.specs.Limits.{tables, variable_limit, clause_limit, literal_limit}
+use Rattle.dqbf.specs.Limits.{tables, variable_limit, universal_limit, clause_limit, literal_limit}
 use Rattle.dqbf.specs.Bytes.{bytes}
 use Rattle.dqbf.specs.Text.{line_feed}
 use Rattle.dqbf.specs.Literal.{Clause, ◌∈◌, total}
@@ -36,8 +36,7 @@ use Rattle.dqbf.proofs.Spelling.Lines.{text-append}
 use Rattle.dqbf.proofs.Spelling.Part.{part-valid}
 use Rattle.words.specs.Laid.{Fits}
 use Rattle.words.specs.Listed.{listed}
-use Rattle.tables.specs.FormulaEntries.{declarations}
-use Rattle.formula_lines.specs.Working.{universal_names}
+use Rattle.formula_lines.specs.Working.{declarations, universal_names}
 use Rattle.formula_text.specs.Writing.{tidy_limit}
 use Rattle.words.proofs.Laws.Words.{with_space}
 use Rattle.words.proofs.Laws.Listed.{clause-text, a-text, d-text, header-text}

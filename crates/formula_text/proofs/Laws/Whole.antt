@@ -1,21 +1,21 @@
--- The lines of a formula one behind the other.
+-- The lines of a formula one behind the other, and the formula part of well-formed tables.
 use mathlib.Core.Path.{◌≡◌, refl, ◌∙◌, ap, ap₂}
 use mathlib.Core.Bool.{Bool}
 use mathlib.Core.List.{List, [], ◌∷◌, ◌++◌, map}
-use Prim.Native.Nat.{ℕ, zero, suc, ◌+◌}
+use Prim.Native.Nat.{ℕ, zero, suc, ◌+◌, ◌≤◌}
 use lib.IntN.{ℤ}
-use lib.ListN.{length}
+use lib.ListN.{length, take}
+use lib.Seq.{take-take}
 use Rattle.dqbf.specs.Set.{Set}
 use Rattle.dqbf.specs.Literal.{Clause}
 use Rattle.dqbf.specs.Reading.{Form, header, clause_line}
-use Rattle.dqbf.specs.Model.{Model, universals_in, universal_count, set_of, numbers}
+use Rattle.dqbf.specs.Model.{Model, universals_in, universal_count, kind_of, set_of, numbers}
 use Rattle.dqbf.specs.Spelling.{line_text, text}
-use Rattle.dqbf.specs.Spelled.{formula_in, is_universal, select, first_of, is_at, universal_at, universals_from, declaration_order, is_member, members_of, is_existential, existentials, a_lines, d_line_of, lines_of}
-use Rattle.tables.specs.Tables.{cut}
-use Rattle.tables.proofs.Laws.Cuts.{cut-length}
-use Rattle.tables.specs.FormulaEntries.{declarations}
-use Rattle.tables.proofs.Laws.FormulaEntries.{kind-declared, set-declared}
-use Rattle.formula_lines.specs.Working.{universal_names, declared_from}
+use Rattle.dqbf.specs.Spelled.{formula_in, formula_part, is_universal, select, first_of, is_at, universal_at, universals_from, declaration_order, is_member, members_of, is_existential, existentials, a_lines, d_line_of, lines_of}
+use Rattle.tables.specs.declared.State.{State}
+use Rattle.tables.specs.Tables.{Tables, cut, model_in}
+use Rattle.tables.proofs.Laws.Cuts.{cut-length, take-cut}
+use Rattle.formula_lines.specs.Working.{declarations, universal_names, declared_from}
 use Rattle.formula_lines.proofs.Laws.Universals.{names-count, declared-in}
 use Rattle.dqbf.proofs.Spelling.Lines.{text-append}
 
@@ -44,9 +44,19 @@ module _ (kinds sets : List ℕ) (Cs : List Clause) where
   abbrev p : Model
   p = formula_in kinds sets Cs
 
+  kind-same : (x : ℕ) → kind_of p x ≡ kind_of d x
+  unfolding kind_of declarations
+  kind-same zero = refl
+  kind-same (suc i) = refl
+
+  set_same : (x : ℕ) → set_of p x ≡ set_of d x
+  unfolding set_of declarations
+  set_same zero = refl
+  set_same (suc i) = refl
+
   at_same : (i : ℕ) → universal_at p i ≡ universal_at d i
   unfolding universal_at is_at is_universal declarations
-  at_same i = first-same (is_at p i) (is_at d i) (λ x. rw (kind-declared kinds sets Cs x, set-declared kinds sets Cs x)) (numbers 0 (length kinds))
+  at_same i = first-same (is_at p i) (is_at d i) (λ x. rw (kind-same x, set_same x)) (numbers 0 (length kinds))
 
   universals-same : (i n : ℕ) → universals_from p i n ≡ universals_from d i n
   unfolding universals_from
@@ -55,15 +65,15 @@ module _ (kinds sets : List ℕ) (Cs : List Clause) where
 
   members-same : (s : Set) → members_of p s ≡ members_of d s
   unfolding members_of is_member is_universal declarations
-  members-same s = select-same (is_member p s) (is_member d s) (λ x. rw (kind-declared kinds sets Cs x, set-declared kinds sets Cs x)) (numbers 0 (length kinds))
+  members-same s = select-same (is_member p s) (is_member d s) (λ x. rw (kind-same x, set_same x)) (numbers 0 (length kinds))
 
   existentials-same : existentials p ≡ existentials d
   unfolding existentials is_existential declarations
-  existentials-same = select-same (is_existential p) (is_existential d) (λ x. rw (kind-declared kinds sets Cs x)) (numbers 0 (length kinds))
+  existentials-same = select-same (is_existential p) (is_existential d) (λ x. rw (kind-same x)) (numbers 0 (length kinds))
 
   d-line-same : (x : ℕ) → d_line_of p x ≡ d_line_of d x
   unfolding d_line_of
-  d-line-same x = rw (set-declared kinds sets Cs x, members-same (set_of d x))
+  d-line-same x = rw (set_same x, members-same (set_of d x))
 
   lines_split : text (lines_of p)
       ≡ line_text (header (length kinds) (length Cs)) ++ (text (a_lines (universals_from p 0 (universals_in kinds))) ++ (text (map (d_line_of p) (existentials p)) ++ text (map clause_line Cs)))
@@ -98,3 +108,16 @@ module _ (kinds sets ends : List ℕ) (literals : List ℤ) where
   whole-text e =
       lines-text kinds sets (cut 0 ends literals)
       ∙ rw (cut-length 0 ends literals, e, names-count kinds, declared-in kinds sets 0 (universals_in kinds))
+
+-- ---- the entries of well-formed tables
+
+pub part_in : (t : Tables) (s : State) → s.bound.0 ≤ s.variables.0 → s.formula.0 ≤ s.clauses.0
+    → formula_part (model_in t s) ≡ formula_in (take s.bound.0 t.kinds) (take s.bound.0 t.sets) (cut 0 (take s.formula.0 t.ends) t.literals)
+unfolding formula_part model_in
+part_in t s h k =
+    rw (
+      take-take s.bound.0 s.variables.0 t.kinds h,
+      take-take s.bound.0 s.variables.0 t.sets h,
+      take-cut s.formula.0 0 (take s.clauses.0 t.ends) t.literals,
+      take-take s.formula.0 s.clauses.0 t.ends k,
+    )

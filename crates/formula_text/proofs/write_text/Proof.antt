@@ -1,8 +1,7 @@
 -- `formula_text::write_text` meets its contract.
 use borrow.Author.Rules.{rules}
 use Rattle.tables.specs.Tables.{tables_of}
-use Rattle.tables.proofs.Laws.FormulaEntries.{bound-kinds, bound-words, sets-declared, formula-ends}
-use Rattle.formula_text.proofs.Laws.Outcomes.{spelled-lines, entries-ask}
+use Rattle.formula_text.proofs.Laws.Outcomes.{bound-kinds, bound-words, sets-declared, formula-ends, spelled-lines, entries-ask}
 use Rattle.formula_text.proofs.write_text.Statement.{statement}
 use Rattle.formula_text.proofs.write_text.Tie as tie
 

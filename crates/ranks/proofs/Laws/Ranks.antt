@@ -112,14 +112,14 @@ or-or true b c = refl
 or-or false b c = refl
 
 module _ (l : List ℕ) (n i : ℕ) (found : Bool) (fits : n ≤ length l) (so_far : side_by_side (take n l) ≡ (found || side_by_side (drop i (take n l)))) where
-  two : i + 1 < n → drop i (take n l) ≡ get_or l i 0 ∷ get_or l (i + 1) 0 ∷ drop (suc (suc i)) (take n l)
-  two h = slice-cons i n l 0 (omega arith) (omega arith) ∙ rw (add-one i) (ap (λ (r : List ℕ). get_or l i 0 ∷ r) (slice-cons (suc i) n l 0 (omega arith) (omega arith)))
+  two : i + 1 < n → drop i (take n l) ≡ get_or l i 0 ∷ get_or l (suc i) 0 ∷ drop (suc (suc i)) (take n l)
+  two h = slice-cons i n l 0 (omega arith) (omega arith) ∙ ap (λ (r : List ℕ). get_or l i 0 ∷ r) (slice-cons (suc i) n l 0 (omega arith) (omega arith))
 
   pub pair-more : i + 1 < n → side_by_side (take n l) ≡ ((found || eqb (get_or l i 0 / 2) (get_or l (i + 1) 0 / 2)) || side_by_side (drop (i + 1) (take n l)))
   unfolding side_by_side
   pair-more h =
       so_far ∙ ap (λ (r : List ℕ). found || side_by_side r) (two h)
-      ∙ rw (add-one i, slice-cons (suc i) n l 0 (omega arith) (omega arith)) (sym (or-or found (eqb (get_or l i 0 / 2) (get_or l (suc i) 0 / 2)) _))
+      ∙ rw (add-one i, slice-cons (suc i) n l 0 (omega arith) (omega arith)) (sym (or-or found (eqb (get_or l i 0 / 2) (get_or l (suc i) 0 / 2)) (side_by_side (get_or l (suc i) 0 ∷ drop (suc (suc i)) (take n l)))))
 
   pub pair-done : n ≤ i + 1 → found ≡ side_by_side (take n l)
   unfolding side_by_side

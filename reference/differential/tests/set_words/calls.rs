@@ -158,10 +158,6 @@ impl Library for Faulty {
         let tested = self.tested(lent);
         Lean.write(out, tested.each_ref().map(Vec::as_slice))
     }
-
-    fn decide(&mut self, lent: Shared) -> u64 {
-        self.asked(lent, |lent| Lean.decide(lent))
-    }
 }
 
 /// Turns the words of a set round.

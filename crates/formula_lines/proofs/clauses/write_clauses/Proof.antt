@@ -3,9 +3,8 @@ use Prim.Native.Nat.{◌-◌, ◌≤◌}
 use native.Mathlib.Omega.{arith}
 use borrow.Author.Rules.{rules}
 use lib.ListN.{length, drop}
-use Rattle.tables.specs.FormulaEntries.{Rises}
-use Rattle.tables.proofs.Laws.FormulaEntries.{end-rises, end-between}
-use Rattle.formula_lines.proofs.Laws.Clauses.{clause_texts, clauses-fit, clauses-next, clauses-done}
+use Rattle.formula_lines.specs.Working.{Rises}
+use Rattle.formula_lines.proofs.Laws.Clauses.{clause_texts, end-rises, end-between, clauses-fit, clauses-next, clauses-done}
 use Rattle.words.proofs.Laws.Laid.{Writing, writing_start, writing-same}
 use Rattle.formula_lines.proofs.clauses.write_clauses.Statement.{statement}
 use Rattle.formula_lines.proofs.clauses.write_clauses.Tie as tie

@@ -8,7 +8,7 @@ use lib.ListN.{length}
 use Rattle.dqbf.specs.Spelled.{is_existential, existentials}
 use Rattle.dqbf.specs.Spelling.{text}
 use Rattle.sets.specs.Words.{words_each, as_sets}
-use Rattle.tables.specs.FormulaEntries.{declarations}
+use Rattle.formula_lines.specs.Working.{declarations}
 use Rattle.formula_lines.proofs.Laws.Walks.{variables-walk, each_fits, each_next, each-passed, each-end}
 use Rattle.formula_lines.proofs.Laws.Prefix.{d_texts, d_text, d-more, left_lines, d-line-is, existentials-start, existential-test}
 use Rattle.words.proofs.Laws.Laid.{Writing, writing-done, writing-same}
