@@ -1,5 +1,6 @@
 // Byte strings and numbers of an open file of cases; how it is packed stands in reference/cases/src/packed.rs. Numbers are 16 bits, little-endian.
 #![tactic(auto)]
+
 ghost use Rattle.std.specs.Prelude.{◌≤◌, ◌<◌, length};
 
 use std::io::Read;
