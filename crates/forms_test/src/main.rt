@@ -1,127 +1,140 @@
 // Tests of the forms: prints the form of each line of its input, with its numbers, and for clauses and universals these numbers in ascending order.
 #![tactic(auto)]
+
 ghost use Rattle.std.specs.Prelude.{◌≤◌, ◌*◌, length};
 ghost use Rattle.forms_test.specs.Counted.{Counted};
 
 use forms::form::Shape;
+use std::io;
+use std::io::Read;
 
-fn write_numbers(numbers: &[u32], count: usize)
+fn write_numbers(rt: &impl Print, numbers: &[u32], count: usize) -> io::Result<()>
     requires { count ≤ length numbers.now }
 {
     let mut i = 0;
     while i < count {
-        printed::number(numbers[i]);
+        printed::number(rt, numbers[i])?;
         i += 1;
     }
+    Ok(())
 }
 
 // The literal of a rank; the rank itself where a table entry does not hold the literal.
-fn write_rank(rank: u32) {
+fn write_rank(rt: &impl Print, rank: u32) -> io::Result<()> {
     if 65535 < rank {
-        io::write_all(1, b" rank");
-        printed::number(rank);
-        return;
+        rt.write_all(b" rank")?;
+        return printed::number(rt, rank);
     }
-    printed::literal(ranks::literals::literal_of(rank));
+    printed::literal(rt, ranks::literals::literal_of(rank))
 }
 
-fn write_ranks(ranks: &[u32], count: usize)
+fn write_ranks(rt: &impl Print, ranks: &[u32], count: usize) -> io::Result<()>
     requires { count ≤ length ranks.now }
 {
     let mut i = 0;
     while i < count {
-        write_rank(ranks[i]);
+        write_rank(rt, ranks[i])?;
         i += 1;
     }
+    Ok(())
 }
 
 // The different variables of a line in ascending order, if they are at most 64.
-fn write_universals(numbers: &[u32], count: usize)
+fn write_universals(rt: &impl Print, numbers: &[u32], count: usize) -> io::Result<()>
     requires { count ≤ length numbers.now }
 {
     let mut sorted = [0u32; 65];
     let used = ranks::order::insert_all(numbers, count, &mut sorted, 0, 64);
     if 64 < used {
-        io::write_all(1, b" over 64");
-        return;
+        return rt.write_all(b" over 64");
     }
-    io::write_all(1, b" :");
-    write_numbers(&sorted, used);
+    rt.write_all(b" :")?;
+    write_numbers(rt, &sorted, used)
 }
 
 // The clause as it is kept, if it has at most 32 literals, and whether it has complementary ones.
-fn write_clause(numbers: &[u32], count: usize)
+fn write_clause(rt: &impl Print, numbers: &[u32], count: usize) -> io::Result<()>
     requires { count ≤ length numbers.now }
 {
     let mut sorted = [0u32; 33];
     let used = ranks::order::insert_all(numbers, count, &mut sorted, 0, 32);
     if 32 < used {
-        io::write_all(1, b" over 32");
-        return;
+        return rt.write_all(b" over 32");
     }
-    io::write_all(1, b" :");
-    write_ranks(&sorted, used);
+    rt.write_all(b" :")?;
+    write_ranks(rt, &sorted, used)?;
     if ranks::literals::has_pair(&sorted, used) {
-        io::write_all(1, b" complementary");
+        rt.write_all(b" complementary")?;
     }
+    Ok(())
 }
 
-fn write_shape(shape: Shape, numbers: &[u32])
+fn write_shape(rt: &impl Print, shape: Shape, numbers: &[u32]) -> io::Result<()>
     requires { Counted shape (length numbers.now) }
 {
     match shape {
-        Shape::Comment => {
-            io::write_all(1, b"comment");
-        }
+        Shape::Comment => rt.write_all(b"comment")?,
         Shape::Header(v, c) => {
-            io::write_all(1, b"header");
-            printed::number(v);
-            printed::number(c);
+            rt.write_all(b"header")?;
+            printed::number(rt, v)?;
+            printed::number(rt, c)?;
         }
         Shape::Universals(n) => {
-            io::write_all(1, b"universals");
-            write_numbers(numbers, n);
-            write_universals(numbers, n);
+            rt.write_all(b"universals")?;
+            write_numbers(rt, numbers, n)?;
+            write_universals(rt, numbers, n)?;
         }
         Shape::Existentials(n) => {
-            io::write_all(1, b"existentials");
-            write_numbers(numbers, n);
+            rt.write_all(b"existentials")?;
+            write_numbers(rt, numbers, n)?;
         }
         Shape::Dependent(n) => {
-            io::write_all(1, b"dependent");
-            write_numbers(numbers, n);
+            rt.write_all(b"dependent")?;
+            write_numbers(rt, numbers, n)?;
         }
         Shape::Clause(n) => {
-            io::write_all(1, b"clause");
-            write_ranks(numbers, n);
-            write_clause(numbers, n);
+            rt.write_all(b"clause")?;
+            write_ranks(rt, numbers, n)?;
+            write_clause(rt, numbers, n)?;
         }
-        Shape::Malformed => {
-            io::write_all(1, b"malformed");
-        }
+        Shape::Malformed => rt.write_all(b"malformed")?,
     }
-    io::write_all(1, b"\n");
+    println!(rt)
 }
 
-fn write_lines(text: &[u8], numbers: &mut [u32])
+fn write_lines(rt: &impl Print, text: &[u8], numbers: &mut [u32]) -> io::Result<()>
     requires { length text.now ≤ 2 * length numbers.old }
 {
     let mut at = 0;
     while at < text.len() {
         let end = at + tokens::text::line_length(&text[at..]);
         if end == text.len() {
-            io::write_all(1, b"no line feed\n");
-            return;
+            return rt.println("no line feed");
         }
         let shape = forms::form::form(&text[at..end], numbers);
-        write_shape(shape, numbers);
+        write_shape(rt, shape, numbers)?;
         at = end + 1;
     }
+    Ok(())
 }
 
-fn main() {
-    let mut text = io::buffer();
-    let size = io::read_full(0, &mut text);
+// Reads until `bytes` is full, the input ends or a read fails.
+fn read_full(input: &mut impl Read, bytes: &mut [u8]) -> usize
+    ensures { result ≤ length bytes.new }
+{
+    let mut done = 0;
+    while done < bytes.len() {
+        match input.read(&mut bytes[done..]) {
+            Ok(0) | Err(_) => return done,
+            Ok(more) => done += more,
+        }
+    }
+    done
+}
+
+fn main(rt: HostRuntime) -> io::Result<()> {
+    let mut text = [0u8; 4096];
+    let size = read_full(&mut rt.reader(), &mut text);
     let mut numbers = [0u32; 2048];
-    write_lines(&text[..size], &mut numbers);
+    write_lines(&rt, &text[..size], &mut numbers)
 }

@@ -1,13 +1,14 @@
 // Checks the steps in steps.bin against the formula in formula.dq, both in its folder, and prints the line (document 01, "The line printed").
 #![tactic(auto)]
+
 use api::{
     CLAUSE_LIMIT, LINE_SIZE, LITERAL_LIMIT, RECORDS_LIMIT, TABLE_WORDS, TEXT_LIMIT, VARIABLE_LIMIT,
     Written,
 };
-use libc::STDOUT_FILENO;
+use std::io;
 
 // The line of a formula and a list of steps, printed.
-fn print_line(text: &[u8], records: &[u8]) {
+fn print_line(rt: &impl Print, text: &[u8], records: &[u8]) -> io::Result<()> {
     let mut literals = [0i16; LITERAL_LIMIT];
     let mut ends = [0u16; CLAUSE_LIMIT];
     let mut sets = [0u64; TABLE_WORDS];
@@ -23,15 +24,16 @@ fn print_line(text: &[u8], records: &[u8]) {
         &mut out,
     );
     if let Written::Bytes(count) = written {
-        io::write_all(STDOUT_FILENO, &out[..count]);
+        rt.write_all(&out[..count])?;
     }
+    Ok(())
 }
 
 // One byte more than the limit of each, so that the library finds a file that is too long.
-fn main() {
+fn main(rt: HostRuntime) -> io::Result<()> {
     let mut text = [0u8; TEXT_LIMIT + 1];
     let mut records = [0u8; RECORDS_LIMIT + 1];
-    let text_length = files::read_file(b"formula.dq", &mut text);
-    let records_length = files::read_file(b"steps.bin", &mut records);
-    print_line(&text[..text_length], &records[..records_length]);
+    let text_length = files::read_file(&rt, "formula.dq", &mut text);
+    let records_length = files::read_file(&rt, "steps.bin", &mut records);
+    print_line(&rt, &text[..text_length], &records[..records_length])
 }

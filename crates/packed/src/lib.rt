@@ -1,6 +1,9 @@
 // Byte strings and numbers of an open file of cases; how it is packed stands in reference/cases/src/packed.rs. Numbers are 16 bits, little-endian.
 #![tactic(auto)]
+
 ghost use Rattle.std.specs.Prelude.{◌≤◌, ◌<◌, length};
+
+use std::io::Read;
 
 fn wide(byte: u8) -> usize
     ensures { result < 256 }
@@ -16,7 +19,7 @@ fn number_of(two: &[u8]) -> usize {
 }
 
 // The next number; 0 at the end of the file.
-pub fn read_number(file: i32) -> usize {
+pub fn read_number(file: &mut impl Read) -> usize {
     let mut two = [0u8; 2];
     files::read_whole(file, &mut two);
     number_of(&two)
@@ -52,7 +55,7 @@ fn append_times(unit: &[u8], times: usize, bytes: &mut [u8], done: usize) -> usi
 }
 
 // One run: how often, and the unit.
-fn read_run(file: i32, unit: &mut [u8], bytes: &mut [u8], done: usize) -> usize
+fn read_run(file: &mut impl Read, unit: &mut [u8], bytes: &mut [u8], done: usize) -> usize
     requires { done ≤ length bytes.old }
     ensures { result ≤ length bytes.new }
 {
@@ -69,7 +72,7 @@ fn read_run(file: i32, unit: &mut [u8], bytes: &mut [u8], done: usize) -> usize
 }
 
 // A byte string; 65,535 runs stand for the one of the case before, of so many bytes.
-pub fn read_string(file: i32, unit: &mut [u8], bytes: &mut [u8], before: usize) -> usize
+pub fn read_string(file: &mut impl Read, unit: &mut [u8], bytes: &mut [u8], before: usize) -> usize
     requires { before ≤ length bytes.old }
     ensures { result ≤ length bytes.new }
 {

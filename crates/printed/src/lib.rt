@@ -1,25 +1,24 @@
 // Numbers and literals on standard output, each behind a space: what the test programs print.
 #![tactic(auto)]
-use libc::STDOUT_FILENO;
 
-pub fn number(value: u32) {
-    io::write_all(STDOUT_FILENO, b" ");
-    io::print_decimal(STDOUT_FILENO, value as u64);
+use std::io;
+
+pub fn number(rt: &impl Print, value: u32) -> io::Result<()> {
+    print!(rt; " {value}")
 }
 
-pub fn literal(value: i16) {
-    io::write_all(STDOUT_FILENO, b" ");
+pub fn literal(rt: &impl Print, value: i16) -> io::Result<()> {
+    rt.write_all(b" ")?;
     if value < 0 {
-        io::write_all(STDOUT_FILENO, b"-");
+        rt.write_all(b"-")?;
     }
     let variable = dqbf::literal::variable_of(value);
-    io::print_decimal(STDOUT_FILENO, variable as u64);
+    print!(rt; "{variable}")
 }
 
-pub fn literals(clause: &[i16]) {
-    let mut at = 0;
-    while at < clause.len() {
-        literal(clause[at]);
-        at += 1;
+pub fn literals(rt: &impl Print, clause: &[i16]) -> io::Result<()> {
+    for value in clause {
+        literal(rt, *value)?;
     }
+    Ok(())
 }

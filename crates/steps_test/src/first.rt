@@ -3,7 +3,7 @@ ghost use Rattle.std.specs.Prelude.{◌≤◌};
 
 use super::taken;
 use api::{ClauseNumber, State, StepNumber, VariableNumber};
-use libc::STDOUT_FILENO;
+use std::io;
 
 // The counts of zero tables if there is no step.
 fn state_of(count: u32) -> State {
@@ -23,7 +23,15 @@ fn state_of(count: u32) -> State {
 }
 
 // A record of a kind with no clause, over four zero tables of these lengths.
-fn take(first: usize, second: usize, third: usize, fourth: usize, state: State, kind: u8)
+fn take(
+    rt: &impl Print,
+    first: usize,
+    second: usize,
+    third: usize,
+    fourth: usize,
+    state: State,
+    kind: u8,
+) -> io::Result<()>
     requires { (first ≤ 8192) × (second ≤ 2048) × (third ≤ 2048) × (fourth ≤ 512) }
 {
     let mut literals = [0i16; 8192];
@@ -40,18 +48,18 @@ fn take(first: usize, second: usize, third: usize, fourth: usize, state: State, 
         state,
     );
     let answer = stepped.answer;
-    taken::print_answer(answer);
+    taken::print_answer(rt, answer)
 }
 
 // What is tested behind the test that is broken is wrong too, so that the order is seen.
-pub fn tests() {
-    io::write_all(STDOUT_FILENO, b"first tests\nsteps");
-    take(8191, 2048, 2048, 512, state_of(1), 0);
-    take(8192, 2047, 2048, 512, state_of(1), 0);
-    take(8192, 2048, 2047, 512, state_of(1), 0);
-    take(8192, 2048, 2048, 511, state_of(1), 0);
-    take(8192, 2048, 2048, 512, state_of(1), 0);
-    take(8192, 2048, 2048, 512, state_of(0), 0);
-    take(8192, 2048, 2048, 512, state_of(0), 1);
-    io::write_all(STDOUT_FILENO, b"\n");
+pub fn tests(rt: &impl Print) -> io::Result<()> {
+    rt.write_all(b"first tests\nsteps")?;
+    take(rt, 8191, 2048, 2048, 512, state_of(1), 0)?;
+    take(rt, 8192, 2047, 2048, 512, state_of(1), 0)?;
+    take(rt, 8192, 2048, 2047, 512, state_of(1), 0)?;
+    take(rt, 8192, 2048, 2048, 511, state_of(1), 0)?;
+    take(rt, 8192, 2048, 2048, 512, state_of(1), 0)?;
+    take(rt, 8192, 2048, 2048, 512, state_of(0), 0)?;
+    take(rt, 8192, 2048, 2048, 512, state_of(0), 1)?;
+    println!(rt)
 }

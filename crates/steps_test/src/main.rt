@@ -1,31 +1,35 @@
 // Calls `step` and `show` and prints what they answer. First the first tests of a step; then the packed cases of cases.bin, each with its label: the refusal of the load, or
 // the answer of each step, the counts and every clause as it is shown. The tables pass from case to case as the case before left them.
 #![tactic(auto)]
+
 mod first;
 mod shown;
 mod taken;
 mod told;
 
 use api::{LoadAnswer, State};
-use libc::STDOUT_FILENO;
+use std::io::Read;
+use std::{fs, io};
 
 // The answers of the steps, the counts behind them and the clauses, a line each.
 fn print_accepted(
+    rt: &impl Print,
     records: &[u8],
     literals: &mut [i16],
     ends: &mut [u16],
     sets: &mut [u64],
     kinds: &mut [u8],
     state: State,
-) {
-    io::write_all(STDOUT_FILENO, b"\nsteps");
-    let last = taken::take_steps(records, literals, ends, sets, kinds, state);
-    told::counts(last);
-    shown::clauses(literals, ends, sets, kinds, last);
+) -> io::Result<()> {
+    rt.write_all(b"\nsteps")?;
+    let last = taken::take_steps(rt, records, literals, ends, sets, kinds, state)?;
+    told::counts(rt, last)?;
+    shown::clauses(rt, literals, ends, sets, kinds, last)
 }
 
 // The label; then the refusal of the text, or what an accepted one leads to.
 fn print_case(
+    rt: &impl Print,
     label: &[u8],
     text: &[u8],
     records: &[u8],
@@ -33,20 +37,19 @@ fn print_case(
     ends: &mut [u16],
     sets: &mut [u64],
     kinds: &mut [u8],
-) {
-    io::write_all(STDOUT_FILENO, label);
+) -> io::Result<()> {
+    rt.write_all(label)?;
     let loaded = api::load(text, literals, ends, sets, kinds);
     let state = loaded.state;
     let answer = loaded.answer;
     if let LoadAnswer::Refused(line, number) = answer {
-        told::refusal(line, number);
-        return;
+        return told::refusal(rt, line, number);
     }
-    print_accepted(records, literals, ends, sets, kinds, state);
+    print_accepted(rt, records, literals, ends, sets, kinds, state)
 }
 
 // So many cases of an open file.
-fn take_cases(file: i32, count: usize) {
+fn take_cases(rt: &impl Print, file: &mut impl Read, count: usize) -> io::Result<()> {
     let mut unit = [0u8; 33000];
     let mut text = [0u8; 33000];
     let mut records = [0u8; 33000];
@@ -63,6 +66,7 @@ fn take_cases(file: i32, count: usize) {
         records_length = packed::read_string(file, &mut unit, &mut records, records_length);
         let label_length = packed::read_string(file, &mut unit, &mut label, 0);
         print_case(
+            rt,
             &label[..label_length],
             &text[..text_length],
             &records[..records_length],
@@ -70,17 +74,19 @@ fn take_cases(file: i32, count: usize) {
             &mut ends,
             &mut sets,
             &mut kinds,
-        );
+        )?;
         left -= 1;
     }
+    Ok(())
 }
 
-fn main() {
-    first::tests();
-    let file = os::open_read(b"cases.bin");
-    if 0 <= file {
-        let count = packed::read_number(file);
-        take_cases(file, count);
-        libc::close(file);
+fn main(rt: HostRuntime) -> io::Result<()> {
+    first::tests(&rt)?;
+    match fs::open(&rt, "cases.bin") {
+        Ok(mut file) => {
+            let count = packed::read_number(&mut file);
+            take_cases(&rt, &mut file, count)
+        }
+        Err(_) => Ok(()),
     }
 }

@@ -1,12 +1,10 @@
 // Tables that are well formed, and one change to them.
+use std::io;
 use tables::{ClauseNumber, State, StepNumber, VariableNumber, formed};
 
 // A label and a number on a line.
-pub fn line(label: &[u8], number: u64) {
-    io::write_all(1, label);
-    io::write_all(1, b" ");
-    io::print_decimal(1, number);
-    io::write_all(1, b"\n");
+pub fn line(rt: &impl Print, label: &str, number: u64) -> io::Result<()> {
+    println!(rt; "{label} {number}")
 }
 
 // The state of the sample, with V, variables in use, universals, formula clauses, clauses, literals, accepted steps and lowest empty clause.
@@ -74,15 +72,16 @@ pub fn sample(
 }
 
 pub fn judged(
-    label: &[u8],
+    rt: &impl Print,
+    label: &str,
     literals: &[i16; 8200],
     ends: &[u16; 2056],
     sets: &[u64; 2083],
     kinds: &[u8; 520],
     state: State,
-) {
+) -> io::Result<()> {
     let number = formed::first_refusal(literals, ends, sets, kinds, state);
-    line(label, number as u64);
+    line(rt, label, number as u64)
 }
 
 // One entry of each table, two of the literals and of the words of the sets.
@@ -144,7 +143,7 @@ fn change_kind(kinds: &mut [u8; 520], place: usize, kind: u8) {
 }
 
 // The sample with a change and a state.
-fn changed(label: &[u8], change: Change, state: State) {
+fn changed(rt: &impl Print, label: &str, change: Change, state: State) -> io::Result<()> {
     let mut literals = [0i16; 8200];
     let mut ends = [0u16; 2056];
     let mut sets = [0u64; 2083];
@@ -160,56 +159,76 @@ fn changed(label: &[u8], change: Change, state: State) {
     change_set(&mut sets, change.set_place, change.set);
     change_set(&mut sets, change.other_place, change.other);
     change_kind(&mut kinds, change.kind_place, change.kind);
-    judged(label, &literals, &ends, &sets, &kinds, state);
+    judged(rt, label, &literals, &ends, &sets, &kinds, state)
 }
 
-pub fn with_state(label: &[u8], state: State) {
-    changed(label, unchanged(), state);
+pub fn with_state(rt: &impl Print, label: &str, state: State) -> io::Result<()> {
+    changed(rt, label, unchanged(), state)
 }
 
 // Two neighbouring literals.
-pub fn with_literals(label: &[u8], place: usize, literal: i16, next: i16) {
+pub fn with_literals(
+    rt: &impl Print,
+    label: &str,
+    place: usize,
+    literal: i16,
+    next: i16,
+) -> io::Result<()> {
     let mut change = unchanged();
     change.literal_place = place;
     change.literal = literal;
     change.next_literal = next;
-    changed(label, change, sample_state());
+    changed(rt, label, change, sample_state())
 }
 
-pub fn with_end(label: &[u8], place: usize, end: u16) {
+pub fn with_end(rt: &impl Print, label: &str, place: usize, end: u16) -> io::Result<()> {
     let mut change = unchanged();
     change.end_place = place;
     change.end = end;
-    changed(label, change, sample_state());
+    changed(rt, label, change, sample_state())
 }
 
-pub fn with_sets(label: &[u8], place: usize, set: u64, other_place: usize, other: u64) {
+pub fn with_sets(
+    rt: &impl Print,
+    label: &str,
+    place: usize,
+    set: u64,
+    other_place: usize,
+    other: u64,
+) -> io::Result<()> {
     let mut change = unchanged();
     change.set_place = place;
     change.set = set;
     change.other_place = other_place;
     change.other = other;
-    changed(label, change, sample_state());
+    changed(rt, label, change, sample_state())
 }
 
-pub fn with_kind(label: &[u8], place: usize, kind: u8) {
+pub fn with_kind(rt: &impl Print, label: &str, place: usize, kind: u8) -> io::Result<()> {
     let mut change = unchanged();
     change.kind_place = place;
     change.kind = kind;
-    changed(label, change, sample_state());
+    changed(rt, label, change, sample_state())
 }
 
 // Zero tables with a state.
-pub fn with_zeros(label: &[u8], state: State) {
+pub fn with_zeros(rt: &impl Print, label: &str, state: State) -> io::Result<()> {
     let literals = [0i16; 8200];
     let ends = [0u16; 2056];
     let sets = [0u64; 2083];
     let kinds = [0u8; 520];
-    judged(label, &literals, &ends, &sets, &kinds, state);
+    judged(rt, label, &literals, &ends, &sets, &kinds, state)
 }
 
 // Zero tables of stated lengths with a zero state.
-pub fn blank(label: &[u8], literals: &[i16], ends: &[u16], sets: &[u64], kinds: &[u8]) {
+pub fn blank(
+    rt: &impl Print,
+    label: &str,
+    literals: &[i16],
+    ends: &[u16],
+    sets: &[u64],
+    kinds: &[u8],
+) -> io::Result<()> {
     let number = formed::first_refusal(literals, ends, sets, kinds, counts(0, 0, 0, 0, 0, 0, 0, 0));
-    line(label, number as u64);
+    line(rt, label, number as u64)
 }

@@ -1,5 +1,6 @@
 // Clauses, a variable and steps added to the sample; the tables cleared.
 use super::{build, questioned};
+use std::io;
 use tables::{State, adding, formed, zero};
 
 fn one_clause(ends: &mut [u16], state: State, width: u16) -> State {
@@ -69,7 +70,7 @@ fn grow(
     one_fork(ends, sets, kinds, one, 2, 2, none)
 }
 
-pub fn grown() {
+pub fn grown(rt: &impl Print) -> io::Result<()> {
     let mut literals = [0i16; 8200];
     let mut ends = [0u16; 2056];
     let mut sets = [0u64; 2083];
@@ -82,25 +83,34 @@ pub fn grown() {
         &mut kinds,
         build::sample_state(),
     );
-    build::judged(b"the sample, grown", &literals, &ends, &sets, &kinds, state);
-    report(&literals, &ends, &sets, &kinds, state);
+    build::judged(
+        rt,
+        "the sample, grown",
+        &literals,
+        &ends,
+        &sets,
+        &kinds,
+        state,
+    )?;
+    report(rt, &literals, &ends, &sets, &kinds, state)
 }
 
 fn report(
+    rt: &impl Print,
     literals: &[i16; 8200],
     ends: &[u16; 2056],
     sets: &[u64; 2083],
     kinds: &[u8; 520],
     state: State,
-) {
-    questioned::clause_lent(literals, ends, sets, kinds, state, 7);
-    questioned::clause_lent(literals, ends, sets, kinds, state, 8);
-    questioned::clause_lent(literals, ends, sets, kinds, state, 9);
-    questioned::variable_lent(literals, ends, sets, kinds, state, 7);
+) -> io::Result<()> {
+    questioned::clause_lent(rt, literals, ends, sets, kinds, state, 7)?;
+    questioned::clause_lent(rt, literals, ends, sets, kinds, state, 8)?;
+    questioned::clause_lent(rt, literals, ends, sets, kinds, state, 9)?;
+    questioned::variable_lent(rt, literals, ends, sets, kinds, state, 7)?;
     let steps = state.steps;
     let empty = state.empty;
-    build::line(b"steps", steps.0 as u64);
-    build::line(b"lowest empty clause", empty.0 as u64);
+    build::line(rt, "steps", steps.0 as u64)?;
+    build::line(rt, "lowest empty clause", empty.0 as u64)
 }
 
 fn wide_end(end: u16) -> u64 {
@@ -111,18 +121,25 @@ fn wide_kind(kind: u8) -> u64 {
     kind as u64
 }
 
-fn marks(literals: &[i16; 8200], ends: &[u16; 2056], sets: &[u64; 2083], kinds: &[u8; 520]) {
+fn marks(
+    rt: &impl Print,
+    literals: &[i16; 8200],
+    ends: &[u16; 2056],
+    sets: &[u64; 2083],
+    kinds: &[u8; 520],
+) -> io::Result<()> {
     build::line(
-        b"last literal",
+        rt,
+        "last literal",
         dqbf::literal::variable_of(literals[8199]) as u64,
-    );
-    build::line(b"last end", wide_end(ends[2055]));
-    build::line(b"last set", sets[2082]);
-    build::line(b"last kind", wide_kind(kinds[519]));
+    )?;
+    build::line(rt, "last end", wide_end(ends[2055]))?;
+    build::line(rt, "last set", sets[2082])?;
+    build::line(rt, "last kind", wide_kind(kinds[519]))
 }
 
 // A refused formula leaves zeros over the stated sizes, and the entries past them as they were.
-pub fn cleared() {
+pub fn cleared(rt: &impl Print) -> io::Result<()> {
     let mut literals = [0i16; 8200];
     let mut ends = [0u16; 2056];
     let mut sets = [0u64; 2083];
@@ -130,14 +147,15 @@ pub fn cleared() {
     build::sample(&mut literals, &mut ends, &mut sets, &mut kinds);
     clear_all(&mut literals, &mut ends, &mut sets, &mut kinds);
     build::judged(
-        b"cleared",
+        rt,
+        "cleared",
         &literals,
         &ends,
         &sets,
         &kinds,
         build::counts(0, 0, 0, 0, 0, 0, 0, 0),
-    );
-    marks(&literals, &ends, &sets, &kinds);
+    )?;
+    marks(rt, &literals, &ends, &sets, &kinds)
 }
 
 fn clear_all(

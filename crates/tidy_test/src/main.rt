@@ -2,28 +2,32 @@
 // the answer for an output one byte shorter than the text, and whether all bytes that are to stay are as they were. The tables pass from case to case as the case before
 // left them.
 #![tactic(auto)]
+
 mod told;
 mod written;
 
 use api::{CLAUSE_LIMIT, LITERAL_LIMIT, LoadAnswer, State, TABLE_WORDS, VARIABLE_LIMIT};
-use libc::STDOUT_FILENO;
+use std::io::Read;
+use std::{fs, io};
 
 // The tidy text behind a run of the records, whose answer is not printed.
 fn print_accepted(
+    rt: &impl Print,
     records: &[u8],
     literals: &mut [i16],
     ends: &mut [u16],
     sets: &mut [u64],
     kinds: &mut [u8],
     state: State,
-) {
+) -> io::Result<()> {
     let ran = api::run(records, literals, ends, sets, kinds, state);
     let last = ran.state;
-    written::print_text(literals, ends, sets, kinds, last);
+    written::print_text(rt, literals, ends, sets, kinds, last)
 }
 
 // The label; then the refusal of the text, or what an accepted one leads to.
 fn print_case(
+    rt: &impl Print,
     label: &[u8],
     text: &[u8],
     records: &[u8],
@@ -31,21 +35,20 @@ fn print_case(
     ends: &mut [u16],
     sets: &mut [u64],
     kinds: &mut [u8],
-) {
-    io::write_all(STDOUT_FILENO, label);
-    io::write_all(STDOUT_FILENO, b"\n");
+) -> io::Result<()> {
+    rt.write_all(label)?;
+    println!(rt)?;
     let loaded = api::load(text, literals, ends, sets, kinds);
     let state = loaded.state;
     let answer = loaded.answer;
     if let LoadAnswer::Refused(line, number) = answer {
-        told::refusal(line, number);
-        return;
+        return told::refusal(rt, line, number);
     }
-    print_accepted(records, literals, ends, sets, kinds, state);
+    print_accepted(rt, records, literals, ends, sets, kinds, state)
 }
 
 // So many cases of an open file.
-fn take_cases(file: i32, count: usize) {
+fn take_cases(rt: &impl Print, file: &mut impl Read, count: usize) -> io::Result<()> {
     let mut unit = [0u8; 33000];
     let mut text = [0u8; 33000];
     let mut records = [0u8; 33000];
@@ -62,6 +65,7 @@ fn take_cases(file: i32, count: usize) {
         records_length = packed::read_string(file, &mut unit, &mut records, records_length);
         let label_length = packed::read_string(file, &mut unit, &mut label, 0);
         print_case(
+            rt,
             &label[..label_length],
             &text[..text_length],
             &records[..records_length],
@@ -69,16 +73,18 @@ fn take_cases(file: i32, count: usize) {
             &mut ends,
             &mut sets,
             &mut kinds,
-        );
+        )?;
         left -= 1;
     }
+    Ok(())
 }
 
-fn main() {
-    let file = os::open_read(b"cases.bin");
-    if 0 <= file {
-        let count = packed::read_number(file);
-        take_cases(file, count);
-        libc::close(file);
+fn main(rt: HostRuntime) -> io::Result<()> {
+    match fs::open(&rt, "cases.bin") {
+        Ok(mut file) => {
+            let count = packed::read_number(&mut file);
+            take_cases(&rt, &mut file, count)
+        }
+        Err(_) => Ok(()),
     }
 }

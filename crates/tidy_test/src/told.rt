@@ -1,24 +1,23 @@
 // Lines of what is answered.
-use libc::STDOUT_FILENO;
+use std::io;
 
 // The line and the number of a refused load.
-pub fn refusal(line: u32, number: u32) {
-    io::write_all(STDOUT_FILENO, b"formula");
-    printed::number(line);
-    printed::number(number);
-    io::write_all(STDOUT_FILENO, b"\n");
+pub fn refusal(rt: &impl Print, line: u32, number: u32) -> io::Result<()> {
+    rt.write_all(b"formula")?;
+    printed::number(rt, line)?;
+    printed::number(rt, number)?;
+    println!(rt)
 }
 
 // A number by itself.
-pub fn number(value: u64) {
-    io::print_decimal(STDOUT_FILENO, value);
-    io::write_all(STDOUT_FILENO, b"\n");
+pub fn number(rt: &impl Print, value: u64) -> io::Result<()> {
+    println!(rt; "{value}")
 }
 
-pub fn marks(marked: bool) {
+pub fn marks(rt: &impl Print, marked: bool) -> io::Result<()> {
     if marked {
-        io::write_all(STDOUT_FILENO, b"marked\n");
+        rt.println("marked")
     } else {
-        io::write_all(STDOUT_FILENO, b"changed\n");
+        rt.println("changed")
     }
 }

@@ -1,10 +1,10 @@
 // The tidy text over outputs whose bytes are all a mark.
-ghost use Rattle.std.specs.Prelude.{◌≡◌, ◌≤◌, length};
+ghost use Rattle.std.specs.Prelude.{◌≡◌, ◌≤◌, length, IfOk};
 ghost use Rattle.formula_text.specs.Writing.{tidy_limit};
 
 use super::told;
 use api::{State, TIDY_LIMIT, WriteAnswer};
-use libc::STDOUT_FILENO;
+use std::io;
 
 const MARK: u8 = 126;
 
@@ -30,32 +30,34 @@ fn number_of(written: WriteAnswer) -> u16 {
 
 // The text and its length, which is answered. A refusal is printed by its number.
 fn print_long(
+    rt: &impl Print,
     out: &mut [u8],
     literals: &[i16],
     ends: &[u16],
     sets: &[u64],
     kinds: &[u8],
     state: State,
-) -> usize
+) -> io::Result<usize>
     requires { length out.old ≡ tidy_limit }
-    ensures { result ≤ tidy_limit }
+    ensures { IfOk result (λ count. count ≤ tidy_limit) }
 {
     let written = api::write_formula(out, literals, ends, sets, kinds, state);
     match written {
         WriteAnswer::Refused(number) => {
-            told::number(number as u64);
-            0
+            told::number(rt, number as u64)?;
+            Ok(0)
         }
         WriteAnswer::Length(count) => {
-            io::write_all(STDOUT_FILENO, &out[..count]);
-            told::number(count as u64);
-            count
+            rt.write_all(&out[..count])?;
+            told::number(rt, count as u64)?;
+            Ok(count)
         }
     }
 }
 
 // The answer for the front of an output that is one byte shorter than a text of so many bytes; whether the whole output stays. No text is empty.
 fn print_short(
+    rt: &impl Print,
     out: &mut [u8],
     count: usize,
     literals: &[i16],
@@ -63,23 +65,30 @@ fn print_short(
     sets: &[u64],
     kinds: &[u8],
     state: State,
-) -> bool
+) -> io::Result<bool>
     requires { (count ≤ tidy_limit) × (length out.old ≡ tidy_limit) }
 {
     if count == 0 {
-        return false;
+        return Ok(false);
     }
     let short = &mut out[..count - 1];
     let written = api::write_formula(short, literals, ends, sets, kinds, state);
-    told::number(number_of(written) as u64);
-    is_marked(out, 0)
+    told::number(rt, number_of(written) as u64)?;
+    Ok(is_marked(out, 0))
 }
 
 // The text, its length, the answer for a shorter output, and the marks.
-pub fn print_text(literals: &[i16], ends: &[u16], sets: &[u64], kinds: &[u8], state: State) {
+pub fn print_text(
+    rt: &impl Print,
+    literals: &[i16],
+    ends: &[u16],
+    sets: &[u64],
+    kinds: &[u8],
+    state: State,
+) -> io::Result<()> {
     let mut long = [MARK; TIDY_LIMIT];
     let mut short = [MARK; TIDY_LIMIT];
-    let count = print_long(&mut long, literals, ends, sets, kinds, state);
-    let kept = print_short(&mut short, count, literals, ends, sets, kinds, state);
-    told::marks(kept && is_marked(&long, count));
+    let count = print_long(rt, &mut long, literals, ends, sets, kinds, state)?;
+    let kept = print_short(rt, &mut short, count, literals, ends, sets, kinds, state)?;
+    told::marks(rt, kept && is_marked(&long, count))
 }

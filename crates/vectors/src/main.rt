@@ -1,10 +1,13 @@
 // Judges the packed cases of cases.bin and prints each label with its line. The tables pass from case to case as the case before left them.
 #![tactic(auto)]
+
 use api::{LINE_SIZE, Written};
-use libc::STDOUT_FILENO;
+use std::io::Read;
+use std::{fs, io};
 
 // The label, then the line.
 fn print_case(
+    rt: &impl Print,
     label: &[u8],
     text: &[u8],
     records: &[u8],
@@ -12,18 +15,19 @@ fn print_case(
     ends: &mut [u16],
     sets: &mut [u64],
     kinds: &mut [u8],
-) {
+) -> io::Result<()> {
     let mut out = [0u8; LINE_SIZE];
     let written = api::judge(text, records, literals, ends, sets, kinds, &mut out);
-    io::write_all(STDOUT_FILENO, label);
-    io::write_all(STDOUT_FILENO, b": ");
+    rt.write_all(label)?;
+    rt.write_all(b": ")?;
     if let Written::Bytes(count) = written {
-        io::write_all(STDOUT_FILENO, &out[..count]);
+        rt.write_all(&out[..count])?;
     }
+    Ok(())
 }
 
 // So many cases of an open file.
-fn judge_cases(file: i32, count: usize) {
+fn judge_cases(rt: &impl Print, file: &mut impl Read, count: usize) -> io::Result<()> {
     let mut unit = [0u8; 33000];
     let mut text = [0u8; 33000];
     let mut records = [0u8; 33000];
@@ -40,6 +44,7 @@ fn judge_cases(file: i32, count: usize) {
         records_length = packed::read_string(file, &mut unit, &mut records, records_length);
         let label_length = packed::read_string(file, &mut unit, &mut label, 0);
         print_case(
+            rt,
             &label[..label_length],
             &text[..text_length],
             &records[..records_length],
@@ -47,16 +52,18 @@ fn judge_cases(file: i32, count: usize) {
             &mut ends,
             &mut sets,
             &mut kinds,
-        );
+        )?;
         left -= 1;
     }
+    Ok(())
 }
 
-fn main() {
-    let file = os::open_read(b"cases.bin");
-    if 0 <= file {
-        let count = packed::read_number(file);
-        judge_cases(file, count);
-        libc::close(file);
+fn main(rt: HostRuntime) -> io::Result<()> {
+    match fs::open(&rt, "cases.bin") {
+        Ok(mut file) => {
+            let count = packed::read_number(&mut file);
+            judge_cases(&rt, &mut file, count)
+        }
+        Err(_) => Ok(()),
     }
 }
