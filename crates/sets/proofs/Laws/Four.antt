@@ -45,6 +45,7 @@ quad s = get_or s 0 0 ∷ get_or s 1 0 ∷ get_or s 2 0 ∷ get_or s 3 0 ∷ []
 
 quad_is : (s : List ℕ) → Words 4 s → s ≡ quad s
 unfolding Words
+quad_is [] p = elim p [ ]
 quad_is (a ∷ []) p = absurd p.1
 quad_is (a ∷ b ∷ []) p = absurd p.1.1
 quad_is (a ∷ b ∷ c ∷ []) p = absurd p.1.1.1

@@ -30,6 +30,8 @@ words-zeros (suc n) = rw (zero-mod (2 ^ 64), zero-div (2 ^ 64)) (ap (λ (l : Lis
 
 words-fit : (n : ℕ) (ws : List ℕ) → Words n ws → (i : ℕ) → get_or ws i 0 < 2 ^ 64
 unfolding Words
+words-fit (suc n) [] h i = elim h [ ]
+words-fit zero (w ∷ ws) h i = elim h [ ]
 words-fit zero [] h i = pow_pos 64
 words-fit (suc n) (w ∷ ws) h zero = h.0
 words-fit (suc n) (w ∷ ws) h (suc i) = words-fit n ws h.1 i

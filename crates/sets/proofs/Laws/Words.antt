@@ -24,6 +24,8 @@ power n = let e : 64 * suc n ≡ 64 * n + 64 = omega arith in rw (e, pow-add 2 (
 
 pub set_below : (n : ℕ) (ws : List ℕ) → Words n ws → as_set ws < 2 ^ (64 * n)
 unfolding Words as_set
+set_below (suc n) [] h = elim h [ ]
+set_below zero (w ∷ ws) h = elim h [ ]
 set_below zero [] h = pow_pos 0
 set_below (suc n) (w ∷ ws) h = rw (power n) (digits_lt (set_below n ws h.1) h.0)
 
@@ -42,6 +44,8 @@ set_back (suc n) s h =
 
 pub words_back : (n : ℕ) (ws : List ℕ) → Words n ws → words_of n (as_set ws) ≡ ws
 unfolding Words words_of as_set
+words_back (suc n) [] h = elim h [ ]
+words_back zero (w ∷ ws) h = elim h [ ]
 words_back zero [] h = refl
 words_back (suc n) (w ∷ ws) h = rw (low (as_set ws) 64 h.0, high (as_set ws) 64 h.0, words_back n ws h.1)
 
@@ -49,26 +53,44 @@ words_back (suc n) (w ∷ ws) h = rw (low (as_set ws) 64 h.0, high (as_set ws) 6
 
 pub union-words : (n : ℕ) (s t : List ℕ) → Words n s → Words n t → Words n (union_each s t)
 unfolding Words union_each
+union-words (suc n) (v ∷ s) [] h k = elim k [ ]
+union-words (suc n) [] t h k = elim h [ ]
+union-words zero (v ∷ s) t h k = elim h [ ]
+union-words zero [] (w ∷ t) h k = elim k [ ]
 union-words zero [] [] h k = tt
 union-words (suc n) (v ∷ s) (w ∷ t) h k = (or_lt 64 v w h.0 k.0, union-words n s t h.1 k.1)
 
 pub union-set : (n : ℕ) (s t : List ℕ) → Words n s → Words n t → as_set (union_each s t) ≡ union (as_set s) (as_set t)
 unfolding Words union_each as_set
+union-set (suc n) (v ∷ s) [] h k = elim k [ ]
+union-set (suc n) [] t h k = elim h [ ]
+union-set zero (v ∷ s) t h k = elim h [ ]
+union-set zero [] (w ∷ t) h k = elim k [ ]
 union-set zero [] [] h k = refl
 union-set (suc n) (v ∷ s) (w ∷ t) h k = rw (union-set n s t h.1 k.1) (sym (or_block 64 (as_set s) (as_set t) v w h.0 k.0))
 
 pub common-words : (n : ℕ) (s t : List ℕ) → Words n s → Words n t → Words n (common_each s t)
 unfolding Words common_each
+common-words (suc n) (v ∷ s) [] h k = elim k [ ]
+common-words (suc n) [] t h k = elim h [ ]
+common-words zero (v ∷ s) t h k = elim h [ ]
+common-words zero [] (w ∷ t) h k = elim k [ ]
 common-words zero [] [] h k = tt
 common-words (suc n) (v ∷ s) (w ∷ t) h k = (and_lt 64 v w h.0 k.0, common-words n s t h.1 k.1)
 
 pub common-set : (n : ℕ) (s t : List ℕ) → Words n s → Words n t → as_set (common_each s t) ≡ common (as_set s) (as_set t)
 unfolding Words common_each as_set
+common-set (suc n) (v ∷ s) [] h k = elim k [ ]
+common-set (suc n) [] t h k = elim h [ ]
+common-set zero (v ∷ s) t h k = elim h [ ]
+common-set zero [] (w ∷ t) h k = elim k [ ]
 common-set zero [] [] h k = refl
 common-set (suc n) (v ∷ s) (w ∷ t) h k = rw (common-set n s t h.1 k.1) (sym (and_block 64 (as_set s) (as_set t) v w h.0 k.0))
 
 pub size-set : (n : ℕ) (s : List ℕ) → Words n s → size_each s ≡ size (as_set s)
 unfolding Words size_each as_set
+size-set (suc n) [] h = elim h [ ]
+size-set zero (w ∷ s) h = elim h [ ]
 size-set zero [] h = sym (ones-ones 0)
 size-set (suc n) (w ∷ s) h = rw (size-set n s h.1, ones_cat 64 (as_set s) w h.0) (omega arith)
 
@@ -84,11 +106,17 @@ both_equal h k v w p q = go (either (eqb v w)) (either (eqb h k))
 
 pub same_set : (n : ℕ) (s t : List ℕ) → Words n s → Words n t → same_each s t ≡ eqb (as_set s) (as_set t)
 unfolding Words same_each as_set
+same_set (suc n) (v ∷ s) [] h k = elim k [ ]
+same_set (suc n) [] t h k = elim h [ ]
+same_set zero (v ∷ s) t h k = elim h [ ]
+same_set zero [] (w ∷ t) h k = elim k [ ]
 same_set zero [] [] h k = refl
 same_set (suc n) (v ∷ s) (w ∷ t) h k = rw (same_set n s t h.1 k.1) (both_equal (as_set s) (as_set t) v w h.0 k.0)
 
 pub none-set : (n : ℕ) (s : List ℕ) → Words n s → none_each s ≡ eqb (as_set s) empty_set
 unfolding Words none_each as_set
+none-set (suc n) [] h = elim h [ ]
+none-set zero (w ∷ s) h = elim h [ ]
 none-set zero [] h = refl
 none-set (suc n) (w ∷ s) h = rw (none-set n s h.1) (both_equal (as_set s) 0 w 0 h.0 (pow_pos 64))
 

@@ -1,0 +1,6 @@
+use Rattle.sets.proofs.Laws.Four.{single-four}
+use borrow.Author.Rules.{rules}
+use Rattle.sets.proofs.single.Goals as goal
+
+pub returns : goal.returns
+returns c = single-four c.args.place c.requires
