@@ -5,7 +5,7 @@ ghost use Rattle.prefix_lines.specs.Lines.{refused_line, universal_added};
 
 use tables::State;
 
-#[derive(Drop)]
+#[derive(Clone, Copy)]
 pub struct Progress {
     // 0 before the header, 1 in the prefix lines, 2 in the clause lines
     pub phase: u8,
@@ -21,7 +21,7 @@ pub const PREFIX_LINES: u8 = 1;
 pub const CLAUSE_LINES: u8 = 2;
 
 // What a line did; its number of refusal is 0 where it passed.
-#[derive(Drop)]
+#[derive(Clone, Copy)]
 pub struct LineAnswer {
     pub progress: Progress,
     pub refusal: u32,

@@ -6,7 +6,7 @@ ghost use Rattle.tables.specs.Tables.{entry};
 use super::{ClauseNumber, VariableNumber};
 
 // Where a clause stands in the literals.
-#[derive(Drop)]
+#[derive(Clone, Copy)]
 pub struct ClauseRange {
     pub start: usize,
     pub end: usize,

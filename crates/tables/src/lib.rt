@@ -2,17 +2,17 @@
 #![tactic(auto)]
 
 // Clause, step and variable numbers are three separate counters.
-#[derive(Drop)]
+#[derive(Clone, Copy)]
 pub struct ClauseNumber(pub u32);
 
-#[derive(Drop)]
+#[derive(Clone, Copy)]
 pub struct StepNumber(pub u32);
 
-#[derive(Drop)]
+#[derive(Clone, Copy)]
 pub struct VariableNumber(pub u32);
 
 // The small state by value that goes with the tables.
-#[derive(Drop)]
+#[derive(Clone, Copy)]
 pub struct State {
     // the header's V
     pub bound: VariableNumber,

@@ -78,6 +78,7 @@ module _ {A : Type 0} (P : A → Bool) where
   -- a test of all entries, and of each
   pub all-member : (l : List A) → all_of P l ≡ true → (x : A) → x ∈ l → P x ≡ true
   unfolding all_of
+  all-member [] e x x4 = elim x4 [ ]
   all-member (y ∷ l) e x (Memᴰ.head w) = rw w (and_left (P y) (all_of P l) e)
   all-member (y ∷ l) e x (Memᴰ.tail q) = all-member l (and_right (P y) (all_of P l) e) x q
 

@@ -89,6 +89,7 @@ over-from k kinds C f = all_from _ C (λ l q. both _ _ (lt-ltb _ _ (f l q).0) (l
 
 forks-front : (kinds rest : List ℕ) → forks_above (length kinds) (kinds ++ rest) ≡ true → (k : ℕ) → k ∈ kinds → k ≡ 3 → ⊥
 unfolding forks_above
+forks-front [] rest e k x3 q = elim x3 [ ]
 forks-front (x ∷ kinds) rest e k (Memᴰ.head w) q =
     eqb-false x 3 (not-true (eqb x 3) (and_left (not (eqb x 3)) (forks_above (length kinds) (kinds ++ rest)) e)) (sym w ∙ q)
 forks-front (x ∷ kinds) rest e k (Memᴰ.tail w) q =

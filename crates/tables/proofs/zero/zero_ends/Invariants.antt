@@ -1,0 +1,16 @@
+use borrow.Author.Rules.{rules}
+use mathlib.Core.Path.{◌≡◌, refl, sym, ◌∙◌}
+use mathlib.Core.Bool.{◌&&◌}
+use Prim.Native.Nat.{◌≤◌, ◌-◌}
+use native.Mathlib.Omega.{arith}
+use lib.ListN.{length, drop}
+use Rattle.tables.specs.WellFormed.{all_of, is_zero}
+use Rattle.tables.proofs.Laws.Tests.{all-next, all_done}
+use Rattle.tables.proofs.Laws.Zeros.{zero-told}
+use Rattle.tables.proofs.zero.zero_ends.Given as goal
+
+abbrev pub invariant-loop-i : goal.invariant-loop-i
+invariant-loop-i l = (l.i ≤ length l.entries) × (all_of is_zero l.entries ≡ (l.zero && all_of is_zero (drop l.i l.entries)))
+
+abbrev pub decreases-loop-i : goal.decreases-loop-i
+decreases-loop-i l = length l.entries - l.i
