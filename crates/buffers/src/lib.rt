@@ -2,7 +2,8 @@
 #![tactic(auto)]
 ghost use Rattle.std.specs.Prelude.{◌≡◌, cond, ◌*◌, ◌-◌, ◌≤◌, leb, length, replicate};
 ghost use Rattle.sets.specs.Words.{words_each, table_words, as_sets, table_of};
-ghost use Rattle.codec.specs.Bytes.{entries, bytes_of, literals_in, literal_bytes, over};
+ghost use Rattle.codec.specs.Bytes.{entries, bytes_of, literals_in, over};
+ghost use Rattle.codec.specs.Bytes as Bytes;
 ghost use Rattle.buffers.specs.Buffers.{buffers_of, state_size, whole};
 ghost use Rattle.tables.specs.Tables.{entry};
 
@@ -68,7 +69,7 @@ pub fn write_tables(
 )
     requires { (2 * length literals.now ≤ length literal_bytes.old) × (2 * length ends.now ≤ length end_bytes.old)
         × (8 * length sets.now ≤ length set_bytes.old) × (length sets.now ≡ table_words) }
-    ensures { (literal_bytes.new ≡ over (literal_bytes literals.now) literal_bytes.old)
+    ensures { (literal_bytes.new ≡ over (Bytes.literal_bytes literals.now) literal_bytes.old)
         × (end_bytes.new ≡ over (bytes_of 2 ends.now) end_bytes.old)
         × (set_bytes.new ≡ over (bytes_of 8 (table_of words_each (as_sets words_each sets.now))) set_bytes.old) }
 {

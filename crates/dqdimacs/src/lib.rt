@@ -1,5 +1,6 @@
 // The load of a formula: DQDIMACS text into the four lent tables (document 01, "Formula text").
 #![tactic(auto)]
+
 ghost use Rattle.std.specs.Prelude.{◌≡◌};
 ghost use Rattle.tables.specs.Tables.{tables_of};
 ghost use Rattle.tables.specs.Spread.{zero_state};

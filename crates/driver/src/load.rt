@@ -15,12 +15,12 @@ pub extern "C" fn kefthrun_load(
     kinds: &mut [u8],
     state: &mut [u8],
 ) -> u64
-    ensures* { λ r. ⌜ ◌≡◌ {A = After}
+    ensures { ◌≡◌ {A = After}
         (record {
           buffers = buffers_of literals.new ends.new sets.new kinds.new state.new;
-          result = r;
+          result = result;
         })
-        (load_bytes (buffers_of literals.old ends.old sets.old kinds.old state.old) text.now) ⌝ }
+        (load_bytes (buffers_of literals.old ends.old sets.old kinds.old state.old) text.now) }
 {
     if !buffers::is_whole(literals, ends, sets, kinds, state) {
         buffers::zero_state(state);

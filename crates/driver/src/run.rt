@@ -14,11 +14,11 @@ pub extern "C" fn kefthrun_run(
     kinds: &mut [u8],
     state: &mut [u8],
 ) -> u64
-    ensures* { λ r. ⌜ RunPromised (buffers_of literals.old ends.old sets.old kinds.old state.old) records.now
+    ensures { RunPromised (buffers_of literals.old ends.old sets.old kinds.old state.old) records.now
         (record {
           buffers = buffers_of literals.new ends.new sets.new kinds.new state.new;
-          result = r;
-        }) ⌝ }
+          result = result;
+        }) }
 {
     if !buffers::is_whole(literals, ends, sets, kinds, state) {
         return results::pack(results::BAD, 0, results::TABLE_TOO_SHORT, 0);

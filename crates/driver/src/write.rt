@@ -15,8 +15,8 @@ pub extern "C" fn kefthrun_write(
     kinds: &[u8],
     state: &[u8],
 ) -> u64
-    ensures* { λ r. ⌜ ◌≡◌ {A = AfterWriteBytes} (record { output = out.new; result = r })
-        (write_bytes (buffers_of literals.now ends.now sets.now kinds.now state.now) out.old) ⌝ }
+    ensures { ◌≡◌ {A = AfterWriteBytes} (record { output = out.new; result = result })
+        (write_bytes (buffers_of literals.now ends.now sets.now kinds.now state.now) out.old) }
 {
     if !buffers::is_whole(literals, ends, sets, kinds, state) {
         return results::pack(results::REFUSED, results::TABLE_TOO_SHORT, 0, 0);

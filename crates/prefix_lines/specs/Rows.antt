@@ -3,7 +3,7 @@
 --     is_universal, is_declared        the kind of a variable, or of the variable of a rank
 --     union_of                        the union of the sets of variables
 -- proofs/Laws/Declaring.antt has what they are in the calculus.
-use Rattle.std.specs.Prelude.{◌≡◌, Bool, true, false, cond, not, ◌&&◌, List, [], ◌∷◌, ℕ, ◌-◌, ◌/◌, leb, eqb, get_or, set}
+use Rattle.std.specs.Prelude.{◌≡◌, Bool, cond, not, ◌&&◌, List, [], ◌∷◌, ℕ, ◌-◌, ◌/◌, leb, eqb, get_or, set}
 use Rattle.dqbf.specs.Set.{Set, empty_set, union}
 use Rattle.tables.specs.Tables.{entry}
 

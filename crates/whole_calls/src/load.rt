@@ -17,12 +17,12 @@ pub fn load_whole(
     state: &mut [u8],
 ) -> u64
     requires { (16384 ≤ length literals.old) × (4096 ≤ length ends.old) × (16384 ≤ length sets.old) × (512 ≤ length kinds.old) × (16 ≤ length state.old) }
-    ensures* { λ r. ⌜ ◌≡◌ {A = After}
+    ensures { ◌≡◌ {A = After}
         (record {
           buffers = buffers_of literals.new ends.new sets.new kinds.new state.new;
-          result = r;
+          result = result;
         })
-        (load_whole (buffers_of literals.old ends.old sets.old kinds.old state.old) text.now) ⌝ }
+        (load_whole (buffers_of literals.old ends.old sets.old kinds.old state.old) text.now) }
 {
     let mut literal_table = [0i16; LITERAL_LIMIT];
     let mut end_table = [0u16; CLAUSE_LIMIT];

@@ -17,8 +17,8 @@ pub fn write_whole(
     state: &[u8],
 ) -> u64
     requires { (16384 ≤ length literals.now) × (4096 ≤ length ends.now) × (16384 ≤ length sets.now) × (16 ≤ length state.now) }
-    ensures* { λ r. ⌜ ◌≡◌ {A = AfterWriteBytes} (record { output = out.new; result = r })
-        (write_whole (buffers_of literals.now ends.now sets.now kinds.now state.now) out.old) ⌝ }
+    ensures { ◌≡◌ {A = AfterWriteBytes} (record { output = out.new; result = result })
+        (write_whole (buffers_of literals.now ends.now sets.now kinds.now state.now) out.old) }
 {
     let mut literal_table = [0i16; LITERAL_LIMIT];
     let mut end_table = [0u16; CLAUSE_LIMIT];

@@ -1,6 +1,7 @@
 // Bytes, words and numbers written over an output from a place on. Each answers the place behind what it wrote; what does not fit is not stored, so that past the
 // end of an output only lengths count.
 #![tactic(auto)]
+
 ghost use Rattle.std.specs.Prelude.{[], ◌∷◌, ◌++◌};
 ghost use Rattle.dqbf.specs.Text.{space};
 ghost use Rattle.dqbf.specs.Line.{digits_of};

@@ -10,25 +10,25 @@
 -- Assumes nothing.
 use mathlib.Core.Path.{◌≡◌, refl, ap, ap₂, sym, ◌∙◌}
 use mathlib.Core.Logic.{◌⊎◌, inl, inr}
-use mathlib.Core.Bool.{Bool, true, false, cond, not, ◌&&◌, ◌||◌, true≢false, not-not}
+use mathlib.Core.Bool.{Bool, true, false, not, ◌&&◌, ◌||◌, true≢false, not-not}
 use mathlib.Core.List.Memᴰ
-use mathlib.Core.List.{List, [], ◌∷◌, ◌++◌, map, append-nil}
-use mathlib.Core.Option.{Option, none}
-use Prim.Native.Nat.{ℕ, zero, suc, ◌+◌, ◌-◌, ◌*◌, ◌/◌, ◌≤◌, ◌<◌, min}
+use mathlib.Core.List.{List, [], ◌∷◌, ◌++◌, map}
+use mathlib.Core.Option.{none}
+use Prim.Native.Nat.{ℕ, ◌+◌, ◌-◌, ◌*◌, ◌/◌, ◌≤◌, ◌<◌}
 use native.Mathlib.Omega.{arith}
 use borrow.Author.Tests.{lt-ltb, le-ltb, le-leb, lt-leb, eq-eqb, ne_eqb, ltb-true, ltb-false, leb-true, leb-false}
 use borrow.Rule.Slice.PartMut.{put_mid}
-use lib.Dec.{leb, ltb, eqb}
+use lib.Dec.{leb, ltb}
 use lib.IntN.{ℤ, nat_abs}
 use lib.ListN.{length, get_or, take, drop, set, length-map, length-append, length-take}
 use lib.Seq.{take-length, length-take-le, get_or-take}
 use Rattle.dqbf.specs.Limits.{clause_limit, literal_limit, variable_limit, width_limit, literal_range}
-use Rattle.dqbf.specs.Refusal.{refusal, first, ◌when◌}
+use Rattle.dqbf.specs.Refusal.{refusal, first}
 use Rattle.dqbf.specs.Literal.{Clause, ◌∈◌, rank, sorted, clashes, total}
-use Rattle.dqbf.specs.Formula.{Formula, universals, declared}
-use Rattle.dqbf.specs.Model.{Model, clauses, word_of, model_by, model_of}
-use Rattle.dqbf.specs.Reading.{Form, clause_line, Phase, opening, clause_lines, Reader, is_opening, takes_clauses, elem, all_in, line_tests, taken}
-use Rattle.dqbf.proofs.Laws.Tests.{either, and_left, and_right, both, never, pass, no-not, no_or, or_left, or_right}
+use Rattle.dqbf.specs.Formula.{Formula, declared}
+use Rattle.dqbf.specs.Model.{clauses, model_by, model_of}
+use Rattle.dqbf.specs.Reading.{clause_line, Reader, takes_clauses, elem, all_in, line_tests, taken}
+use Rattle.dqbf.proofs.Laws.Tests.{either, both, pass, no_or, or_left, or_right}
 use Rattle.dqbf.proofs.Laws.Counting.{in-elem}
 use Rattle.dqbf.proofs.Laws.Clauses.{sorted-holds, sorted-in}
 use Rattle.dqbf.proofs.Reading.Lines.{new_on, all_in-each, sane-form}

@@ -7,7 +7,6 @@ use lib.ListN.{length, take, length-take, length-map}
 use Rattle.dqbf.specs.Literal.{Clause, rank}
 use Rattle.dqbf.specs.Reading.{Form, comment, header, a_line, e_line, d_line, clause_line, no_form}
 use Rattle.forms.specs.Shapes.{shape_of, numbers_of, Formed}
-use Rattle.forms.specs.declared.form.Shape.{Shape}
 use Rattle.forms.specs.declared.form.Shape.TheVariants.{Comment, Header, Universals, Existentials, Dependent, Malformed}
 use Rattle.forms.specs.declared.form.Shape.TheVariants as shape
 

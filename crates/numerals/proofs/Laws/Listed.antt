@@ -16,7 +16,6 @@ use Rattle.dqbf.specs.Text.{space, minus, prepend, closed}
 use Rattle.dqbf.proofs.Laws.Tests.{and_left, and_right}
 use Rattle.tokens.specs.Working.{is_nil, words_of}
 use Rattle.numerals.specs.Working.{entry_of, is_digit, minus_of, digit_of, ranked, Leading}
-use Rattle.numerals.specs.declared.list.Listed.{Listed}
 use Rattle.numerals.proofs.Laws.Bytewise.{may_lead, list_from, list-is, digit_low, digit-high, in_two, no_lead, no_second}
 
 -- the list from a place of a line on

@@ -4,37 +4,36 @@
 --     one-refused, one-universal, one-existential           the returns of `declare_one`
 --     all-refused, all_start, all-next, all_done            the loop of `declare_all`
 -- Assumes nothing.
-use mathlib.Core.Path.{◌≡◌, refl, ap, ap₂, sym, ◌∙◌}
-use mathlib.Core.Bool.{Bool, true, false, cond, not, ◌&&◌, and-false, true≢false}
+use mathlib.Core.Path.{◌≡◌, refl, ap, sym, ◌∙◌}
+use mathlib.Core.Bool.{Bool, true, false, cond, not, ◌&&◌, true≢false}
 use mathlib.Core.List.Memᴰ
 use mathlib.Core.List.{List, [], ◌∷◌, ◌++◌, map, append-nil, append_assoc}
-use mathlib.Core.Option.{Option, none}
+use mathlib.Core.Option.{none}
 use Prim.Native.Nat.{ℕ, zero, suc, ◌+◌, ◌-◌, ◌^◌, ◌≤◌, ◌<◌}
 use native.Mathlib.Numerals.{add-one, sub-one}
 use native.Mathlib.Omega.{arith}
 use borrow.Author.Tests.{le-ltb, not-true, not-false}
-use lib.Dec.{leb, ltb, eqb}
+use lib.Dec.{leb, eqb}
 use lib.ListN.{length, get_or, take, set, length-append, get_or-append}
 use lib.Seq.{take-suc, take_all}
 use Rattle.dqbf.specs.Limits.{variable_limit, universal_limit}
 use Rattle.dqbf.specs.Refusal.{first}
 use Rattle.dqbf.specs.Literal.{◌∈◌, sorted}
 use Rattle.dqbf.specs.Set.{Set, single}
-use Rattle.dqbf.specs.Formula.{Declaration, on_a, on_e, on_d, Formula, universals, universals_of, declared, var}
-use Rattle.dqbf.specs.Model.{Model, clauses, place, word_of, kind_for, set_for, model_by, model_of, universal_count}
-use Rattle.dqbf.specs.Reading.{Form, a_line, e_line, d_line, Phase, opening, prefix_lines, clause_lines, Reader, takes_prefix, elem, different, fresh, undeclarable, line_tests, declaring, taken}
-use Rattle.dqbf.proofs.Laws.Tests.{either, and_left, and_right, leb_yes, never, pass, no-not, ltb_yes, ltb_no}
+use Rattle.dqbf.specs.Formula.{Declaration, on_a, on_e, Formula, universals, universals_of, declared, var}
+use Rattle.dqbf.specs.Model.{clauses, place, word_of, kind_for, set_for, model_by, model_of, universal_count}
+use Rattle.dqbf.specs.Reading.{Form, a_line, e_line, Phase, prefix_lines, Reader, takes_prefix, elem, different, fresh, undeclarable, line_tests, declaring, taken}
+use Rattle.dqbf.proofs.Laws.Tests.{leb_yes, never, pass, no-not}
 use Rattle.dqbf.proofs.Laws.Counting.{in-elem, elem_in}
 use Rattle.dqbf.proofs.Reading.Lines.{Sane, Positive, new_on, sane-form, universals-declared, universals-append, declared-append, declared-a, declared-e}
 use Rattle.tables.specs.Tables.{Tables, rows_of}
 use Rattle.tables.specs.Spread.{over, spread, state_of, kind_row, set_row}
-use Rattle.tables.specs.declared.State.{State}
 use Rattle.tables.proofs.Laws.Rows.{over-set}
 use Rattle.prefix_lines.specs.Rows.{declarable}
 use Rattle.prefix_lines.specs.Lines.{phase_number, progress_of, universal_added, on_line, ReadSoFar, DeclaredAll, OneMore}
 use Rattle.prefix_lines.specs.declared.progress.Progress.{Progress}
 use Rattle.prefix_lines.specs.declared.progress.LineAnswer.{LineAnswer}
-use Rattle.prefix_lines.proofs.Laws.Rows.{row-length, row_at}
+use Rattle.prefix_lines.proofs.Laws.Rows.{row_at}
 use Rattle.prefix_lines.proofs.Laws.Variables.{subject, made, declaring_to, kind-declared, place-new}
 use Rattle.prefix_lines.proofs.Laws.Models.{model-kinds, model-sets, model-universals, kinds-declared, sets-declared, map_more}
 use Rattle.prefix_lines.proofs.Laws.Reading.{counts_of, model-state, phase-is, count-is, state-is, bound-is, universals-is, places_is, framed, spare-is, kinds-over, sets_over}

@@ -4,20 +4,18 @@
 --     fresh-one                                  one variable alone
 --     many-fresh                                 fresh variables on an `a` line are as many different numbers as there are
 -- Assumes nothing.
-use mathlib.Core.Path.{◌≡◌, refl, ap, ap₂, sym, ◌∙◌}
+use mathlib.Core.Path.{◌≡◌, refl, ap, sym, ◌∙◌}
 use mathlib.Core.Bool.{Bool, true, false, not, ◌&&◌, ◌||◌, and_assoc, and-true, true≢false}
-use mathlib.Core.List.{List, [], ◌∷◌, ◌++◌, append-nil, append_assoc}
-use Prim.Native.Nat.{ℕ, zero, suc, ◌+◌, ◌≤◌, ◌<◌}
+use mathlib.Core.List.{List, [], ◌∷◌, ◌++◌, append-nil}
+use Prim.Native.Nat.{ℕ, ◌+◌, ◌≤◌, ◌<◌}
 use native.Mathlib.Numerals.{add-one}
-use native.Mathlib.Omega.{arith}
 use lib.Dec.{leb, eqb}
 use lib.ListN.{length, get_or, take, drop, take-append-drop, length-append}
 use lib.Seq.{take-suc}
-use Rattle.dqbf.specs.Literal.{◌∈◌}
 use Rattle.dqbf.specs.Formula.{Declaration, declared, universals_of}
 use Rattle.dqbf.specs.Reading.{elem, different, fresh}
 use Rattle.dqbf.proofs.Laws.Tests.{and_left, and_right, leb_yes, never}
-use Rattle.dqbf.proofs.Laws.Counting.{Once, once-append, elem_in, fresh-apart, fresh-once, different-once}
+use Rattle.dqbf.proofs.Laws.Counting.{Once, once-append, fresh-apart, fresh-once, different-once}
 use Rattle.dqbf.proofs.Reading.Lines.{once-universals, universals-declared}
 
 or_assoc : (a b c : Bool) → (a || (b || c)) ≡ ((a || b) || c)

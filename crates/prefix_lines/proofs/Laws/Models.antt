@@ -4,21 +4,18 @@
 --     kinds-declared, sets-declared        one declaration more: one entry changes
 --     map_more, model-clause               one clause more
 -- Assumes nothing.
-use mathlib.Core.Path.{◌≡◌, refl, ap, sym, ◌∙◌}
-use mathlib.Core.Logic.{◌⊎◌, inl, inr, ◌≢◌}
-use mathlib.Core.Bool.{Bool, true, false, cond, not, true≢false}
+use mathlib.Core.Path.{◌≡◌, refl, ap, ◌∙◌}
+use mathlib.Core.Bool.{false}
 use mathlib.Core.List.{List, [], ◌∷◌, ◌++◌, map, append-nil}
-use Prim.Native.Nat.{ℕ, zero, suc, ◌+◌, ◌-◌, ◌≤◌, ◌<◌}
+use Prim.Native.Nat.{ℕ, ◌-◌, ◌≤◌}
 use native.Mathlib.Omega.{arith}
-use lib.Dec.{eqb}
-use lib.ListN.{length, get_or, set, replicate}
-use Rattle.dqbf.specs.Literal.{Clause, ◌∈◌, sorted, total}
-use Rattle.dqbf.specs.Set.{Set, empty_set, single}
-use Rattle.dqbf.specs.Formula.{Declaration, on_a, on_e, on_d, Formula, universals, universals_of, declared, Var, undeclared, var_by, var}
-use Rattle.dqbf.specs.Model.{Model, clauses, used, universal_count, numbers, kind_for, set_for, model_by, model_of}
+use lib.ListN.{length, set}
+use Rattle.dqbf.specs.Literal.{Clause, ◌∈◌, sorted}
+use Rattle.dqbf.specs.Formula.{Declaration, on_d, Formula, universals, universals_of, declared, Var, undeclared, var_by, var}
+use Rattle.dqbf.specs.Model.{clauses, used, universal_count, numbers, kind_for, set_for, model_by, model_of}
 use Rattle.dqbf.specs.Reading.{Reader, elem}
-use Rattle.dqbf.proofs.Laws.Tests.{eqb_is, never}
-use Rattle.dqbf.proofs.Laws.Counting.{Once, count-members, elem_in}
+use Rattle.dqbf.proofs.Laws.Tests.{never}
+use Rattle.dqbf.proofs.Laws.Counting.{count-members, elem_in}
 use Rattle.dqbf.proofs.Reading.Lines.{Sane, once-universals, universals-declared, universals-append}
 use Rattle.tables.specs.Tables.{entry}
 use Rattle.tables.specs.Adding.{with_formula}

@@ -8,20 +8,20 @@ use mathlib.Core.Path.{◌≡◌, refl, ap, ap₂, sym, ◌∙◌}
 use mathlib.Core.Bool.{Bool, true, false, cond, not, ◌&&◌, ◌||◌}
 use mathlib.Core.List.Memᴰ
 use mathlib.Core.List.{List, [], ◌∷◌, ◌++◌, map, append-nil}
-use mathlib.Core.Option.{Option, none}
-use Prim.Native.Nat.{ℕ, zero, suc, ◌+◌, ◌-◌, ◌≤◌, ◌<◌, min}
+use mathlib.Core.Option.{none}
+use Prim.Native.Nat.{ℕ, ◌+◌, ◌-◌, ◌≤◌, ◌<◌, min}
 use native.Mathlib.Omega.{arith}
 use borrow.Author.Tests.{lt-ltb, le-ltb, not-true, not-false}
-use lib.Dec.{leb, ltb, eqb}
-use lib.ListN.{length, get_or, take, drop, set, length-append}
+use lib.Dec.{ltb}
+use lib.ListN.{length, take, set, length-append}
 use lib.Seq.{take-length, length-take-le}
 use Rattle.dqbf.specs.Limits.{universal_limit}
-use Rattle.dqbf.specs.Refusal.{refusal, first, ◌when◌}
+use Rattle.dqbf.specs.Refusal.{refusal, first}
 use Rattle.dqbf.specs.Literal.{◌∈◌}
 use Rattle.dqbf.specs.Set.{Set, single, union}
-use Rattle.dqbf.specs.Formula.{Declaration, on_a, on_e, on_d, Formula, universals, universals_of, declared, var}
-use Rattle.dqbf.specs.Model.{Model, place, word_of, kind_for, set_for}
-use Rattle.dqbf.specs.Reading.{Form, a_line, e_line, d_line, Phase, prefix_lines, Reader, takes_prefix, elem, all_in, different, fresh, undeclarable, line_tests, declaring, taken}
+use Rattle.dqbf.specs.Formula.{on_a, on_d, universals, universals_of, declared, var}
+use Rattle.dqbf.specs.Model.{place, word_of, kind_for, set_for}
+use Rattle.dqbf.specs.Reading.{a_line, e_line, d_line, prefix_lines, Reader, takes_prefix, elem, all_in, different, fresh, undeclarable, line_tests, declaring, taken}
 use Rattle.dqbf.proofs.Laws.Tests.{and_left, and_right, eqb_is, never, pass, no-not, no_or, or_left, or_right}
 use Rattle.dqbf.proofs.Reading.Lines.{new_on, universals-append, universals-a}
 use Rattle.ranks.specs.Order.{all_inserted, Arranged}
@@ -30,7 +30,7 @@ use Rattle.ranks.proofs.Laws.Sorting.{universals-count, universals-front}
 use Rattle.tables.specs.Tables.{Tables, rows_of, entry}
 use Rattle.tables.specs.WellFormed.{all_of}
 use Rattle.prefix_lines.specs.Rows.{declarable, is_universal, union_of}
-use Rattle.prefix_lines.specs.Lines.{phase_number, progress_of, refusal_of, on_line, ReadSoFar, Known, LineRead, DeclaredAll}
+use Rattle.prefix_lines.specs.Lines.{refusal_of, on_line, ReadSoFar, Known, LineRead, DeclaredAll}
 use Rattle.prefix_lines.specs.declared.progress.Progress.{Progress}
 use Rattle.prefix_lines.specs.declared.progress.LineAnswer.{LineAnswer}
 use Rattle.prefix_lines.proofs.Laws.Variables.{subject, made, kind-universal, set-universal}

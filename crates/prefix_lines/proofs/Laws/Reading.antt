@@ -5,22 +5,21 @@
 --     long-now, framed                         the tables are long enough, and their entries past the stated sizes as they were
 -- Assumes nothing.
 use mathlib.Core.Path.{◌≡◌, refl, ap, sym, ◌∙◌}
-use mathlib.Core.Bool.{Bool, true, false}
-use mathlib.Core.List.{List, [], ◌∷◌, ◌++◌, map, append-nil}
-use Prim.Native.Nat.{ℕ, zero, suc, ◌+◌, ◌-◌, ◌^◌, ◌≤◌, ◌<◌}
+use mathlib.Core.Bool.{true, false}
+use mathlib.Core.List.{List, map, append-nil}
+use Prim.Native.Nat.{ℕ, ◌-◌, ◌^◌, ◌≤◌}
 use native.Mathlib.Omega.{arith}
-use lib.IntN.{ℤ, pos}
-use lib.ListN.{length, take, get_or, replicate, length-map}
-use Rattle.dqbf.specs.Limits.{clause_limit, literal_limit, variable_limit, universal_limit}
+use lib.IntN.{pos}
+use lib.ListN.{length, take, length-map}
+use Rattle.dqbf.specs.Limits.{clause_limit, literal_limit, variable_limit}
 use Rattle.dqbf.specs.Literal.{Clause, sorted, total}
 use Rattle.dqbf.specs.Set.{Set}
 use Rattle.dqbf.specs.Formula.{Formula, universals}
-use Rattle.dqbf.specs.Model.{Model, clauses, steps, universal_count, empty_from, lowest_empty, model_by, model_of, word_of}
+use Rattle.dqbf.specs.Model.{clauses, steps, universal_count, empty_from, lowest_empty, model_by, model_of, word_of}
 use Rattle.dqbf.specs.Reading.{Reader, is_opening, takes_prefix, takes_clauses, Phase, opening, prefix_lines, clause_lines}
-use Rattle.dqbf.proofs.Reading.Lines.{Sane, once-universals}
-use Rattle.tables.specs.Tables.{Tables, tables_of}
+use Rattle.dqbf.proofs.Reading.Lines.{once-universals}
+use Rattle.tables.specs.Tables.{Tables}
 use Rattle.tables.specs.Spread.{flat, ends_from, over, spread, state_of, kind_row, set_row, blank}
-use Rattle.tables.specs.WellFormed.{long}
 use Rattle.tables.specs.declared.State.{State}
 use Rattle.tables.proofs.Laws.Cuts.{flat-length, ends-length}
 use Rattle.tables.proofs.Laws.Rows.{over-length, over-take, over-over}

@@ -9,7 +9,7 @@ use mathlib.Core.Logic.{◌⊎◌, inl, inr}
 use mathlib.Core.Bool.{Bool, true, false, cond, not, ◌||◌, true≢false}
 use mathlib.Core.List.Memᴰ
 use mathlib.Core.List.{List, [], ◌∷◌, ◌++◌, append-nil, append_assoc}
-use Prim.Native.Nat.{ℕ, zero, suc, ◌+◌, ◌-◌, ◌^◌, ◌≤◌}
+use Prim.Native.Nat.{ℕ, zero, suc, ◌-◌, ◌^◌, ◌≤◌}
 use native.Mathlib.Nat.{one-mul, pow-suc}
 use native.Mathlib.Omega.{arith}
 use lib.Bits.{bit_or, or_zero_r, or_shifted_r}
@@ -24,7 +24,7 @@ use Rattle.dqbf.specs.Model.{place, word_of, kind_for, set_for}
 use Rattle.dqbf.specs.Reading.{elem}
 use Rattle.dqbf.proofs.Laws.Tests.{eqb_is, eqb-not, eqb_same, never, or_no}
 use Rattle.dqbf.proofs.Laws.Words.{bit-ext, bit-or}
-use Rattle.dqbf.proofs.Laws.Counting.{Once, elem_in, in-elem, place_at}
+use Rattle.dqbf.proofs.Laws.Counting.{Once, elem_in, place_at}
 use Rattle.dqbf.proofs.Reading.Lines.{universals-declared, universals-append}
 use Rattle.dqbf.proofs.LoadValid.{e_set-names, set-in}
 use Rattle.dqbf.proofs.Soundness.Link.{universal-in}
@@ -161,6 +161,7 @@ module _ (φ : Formula) where
 
 pub place-grown : (us vs : List ℕ) (x : ℕ) → x ∈ us → place (us ++ vs) x ≡ place us x
 unfolding place
+place-grown [] vs x q = elim q [ ]
 place-grown (u ∷ us) vs x q = go (eqb x u) refl (Memᴰ.cases_cons q) (λ k. place-grown us vs x k)
   where
     go : (b : Bool) → eqb x u ≡ b → (x ≡ u) ⊎ (x ∈ us) → (x ∈ us → place (us ++ vs) x ≡ place us x) → cond b 0 (suc (place (us ++ vs) x)) ≡ cond b 0 (suc (place us x))

@@ -6,14 +6,14 @@
 use mathlib.Core.Path.{◌≡◌, refl, ap, sym, ◌∙◌}
 use mathlib.Core.List.Memᴰ
 use mathlib.Core.List.{List, [], ◌∷◌, ◌++◌, map, append-nil}
-use Prim.Native.Nat.{ℕ, zero, suc, ◌≤◌, ◌<◌}
+use Prim.Native.Nat.{ℕ, ◌≤◌, ◌<◌}
 use native.Mathlib.Omega.{arith}
 use lib.ListN.{length, take, drop, get_or}
 use Rattle.dqbf.specs.Literal.{Clause, ◌∈◌, rank}
 use Rattle.dqbf.specs.Formula.{on_e, on_d, universals, universals_of}
 use Rattle.dqbf.specs.Reading.{Form, comment, header, a_line, e_line, d_line, clause_line, no_form, form_of, Reader, declaring, taken}
 use Rattle.dqbf.proofs.Laws.Lists.{nth}
-use Rattle.dqbf.proofs.Reading.Lines.{Positive, new_on, form-positive, universals-append, universals-e}
+use Rattle.dqbf.proofs.Reading.Lines.{new_on, form-positive, universals-append, universals-e}
 use Rattle.ranks.specs.Order.{all_inserted}
 use Rattle.forms.specs.Shapes.{Formed}
 use Rattle.forms.specs.declared.form.Shape.{Shape}

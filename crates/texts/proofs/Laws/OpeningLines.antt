@@ -4,23 +4,23 @@
 --     malformed
 -- Assumes nothing.
 use mathlib.Core.Path.{◌≡◌, refl, ap, sym, ◌∙◌}
-use mathlib.Core.Bool.{Bool, true, false, not, ◌||◌}
+use mathlib.Core.Bool.{true, false, not, ◌||◌}
 use mathlib.Core.List.Memᴰ
-use mathlib.Core.List.{List, [], ◌∷◌, ◌++◌, map, append_assoc, append-nil}
-use mathlib.Core.Option.{Option, none}
+use mathlib.Core.List.{List, [], ◌++◌, map, append_assoc, append-nil}
+use mathlib.Core.Option.{none}
 use Prim.Native.Nat.{ℕ, zero, suc, ◌+◌, ◌-◌, ◌≤◌, ◌<◌}
 use native.Mathlib.Omega.{arith}
 use borrow.Author.Tests.{lt-ltb, le-ltb}
 use lib.Dec.{ltb}
 use lib.IntN.{pos}
-use lib.ListN.{length, drop, replicate, length-replicate, replicate-append-replicate}
+use lib.ListN.{drop, replicate, length-replicate, replicate-append-replicate}
 use Rattle.dqbf.specs.Limits.{clause_limit, literal_limit, variable_limit}
-use Rattle.dqbf.specs.Refusal.{refusal, first, ◌when◌}
+use Rattle.dqbf.specs.Refusal.{refusal, first}
 use Rattle.dqbf.specs.Literal.{total}
 use Rattle.dqbf.specs.Formula.{Formula, universals_of, declared_as, var_by}
 use Rattle.dqbf.specs.Model.{clauses, empty_from, numbers, word_of, kind_for, set_for, model_by, model_of}
-use Rattle.dqbf.specs.Reading.{Form, comment, header, no_form, opening, prefix_lines, Reader, start, is_opening, line_tests, taken}
-use Rattle.dqbf.proofs.Laws.Tests.{pass, no-not, no_or, or_left, or_right}
+use Rattle.dqbf.specs.Reading.{comment, header, no_form, Reader, is_opening, line_tests, taken}
+use Rattle.dqbf.proofs.Laws.Tests.{pass, no_or, or_left, or_right}
 use Rattle.dqbf.proofs.Reading.Lines.{Sane, new_on, sane-form}
 use Rattle.tables.specs.Tables.{Tables}
 use Rattle.tables.specs.Spread.{flat, ends_from, over, spread, state_of, kind_row, set_row}

@@ -6,18 +6,17 @@
 use mathlib.Core.Path.{◌≡◌, refl, ap, sym, ◌∙◌}
 use mathlib.Core.Bool.{Bool, true, false, cond}
 use mathlib.Core.List.{List, [], ◌∷◌}
-use mathlib.Core.Option.{Option, none, some}
 use Prim.Native.Nat.{ℕ, zero, suc, ◌+◌, ◌-◌, ◌≤◌, ◌<◌}
 use native.Mathlib.Numerals.{add-one}
 use native.Mathlib.Omega.{arith}
 use borrow.Author.Tests.{eq-eqb, ne_eqb}
 use lib.Dec.{eqb}
 use lib.ListN.{length, take, drop, length-drop, drop_of_length-le}
-use Rattle.dqbf.specs.Refusal.{Refusal, refusal, first}
-use Rattle.dqbf.specs.Formula.{Formula, universals_of}
+use Rattle.dqbf.specs.Refusal.{first}
+use Rattle.dqbf.specs.Formula.{universals_of}
 use Rattle.dqbf.specs.Text.{line_feed, onto, pieces, is_empty}
 use Rattle.dqbf.specs.Model.{numbers, word_of, model_by, model_of}
-use Rattle.dqbf.specs.Reading.{Form, form_of, Phase, opening, prefix_lines, clause_lines, Reader, start, line_tests, taken, Loaded, accepted, refused, at_end, unless, read_from}
+use Rattle.dqbf.specs.Reading.{form_of, Phase, opening, prefix_lines, clause_lines, Reader, start, line_tests, taken, Loaded, accepted, refused, at_end, unless, read_from}
 use Rattle.dqbf.proofs.Reading.Lines.{start-sane}
 use Rattle.ranks.specs.Order.{all_inserted}
 use Rattle.tokens.specs.Lines.{line_length}
@@ -31,7 +30,7 @@ use Rattle.texts.specs.Texts.{start_progress, TextRead}
 use Rattle.prefix_lines.specs.declared.progress.Progress.{Progress}
 use Rattle.prefix_lines.specs.declared.progress.LineAnswer.{LineAnswer}
 use Rattle.texts.specs.declared.reading.TextAnswer.{TextAnswer}
-use Rattle.prefix_lines.proofs.Laws.Reading.{phase-is, phase-opening, phase-late, count-is, clauses-is, framed}
+use Rattle.prefix_lines.proofs.Laws.Reading.{phase-is, phase-opening, count-is, clauses-is, framed}
 
 -- ---- before the first line
 

@@ -4,7 +4,7 @@ use mathlib.Core.Path.{◌≡◌, refl, sym, ap, ap₂, ◌∙◌}
 use mathlib.Core.Bool.{Bool, true, false, cond, ◌||◌}
 use mathlib.Core.List.{List, [], ◌∷◌}
 use Prim.Native.Nat.{ℕ, zero, suc, ◌+◌, ◌-◌, ◌≤◌, ◌<◌}
-use native.Mathlib.Nat.{add-zero, suc_inj, suc-ne-zero, le_of_suc-le-suc, not-suc-le-zero}
+use native.Mathlib.Nat.{suc_inj, suc-ne-zero, le_of_suc-le-suc, not-suc-le-zero}
 use native.Mathlib.Numerals.{add-one}
 use native.Mathlib.Omega.{arith}
 use lib.Dec.{eqb, ltb}
@@ -13,7 +13,6 @@ use lib.Seq.{drop-cons, drop-drop, take_all}
 use borrow.Author.Tests.{eq-eqb, ne_eqb, eqb-true, eqb-false, ltb-true, ltb-false, lt-ltb, le-ltb}
 use Rattle.dqbf.specs.Text.{line_feed, space, onto, pieces, is_empty}
 use Rattle.dqbf.proofs.Laws.Parts.{tail-lent}
-use Rattle.dqbf.proofs.Laws.Tests.{or_no}
 use Rattle.tokens.specs.Lines.{first_of, line_length}
 use Rattle.tokens.specs.Working.{length_before, leading, is_nil, words, words_of, after, Cut}
 

@@ -11,7 +11,7 @@ use Rattle.dqbf.specs.Literal.{Clause}
 use Rattle.dqbf.specs.Text.{line_feed, space}
 use Rattle.dqbf.specs.Line.{digits_of}
 use Rattle.dqbf.specs.Reading.{header, a_line, d_line, clause_line}
-use Rattle.dqbf.specs.Spelling.{joined, literal_word, closed_words, line_words, line_text, text}
+use Rattle.dqbf.specs.Spelling.{joined, literal_word, closed_words, line_words, line_text}
 use Rattle.words.specs.Laid.{Fits, Wrote}
 use Rattle.words.specs.Listed.{listed}
 use Rattle.words.proofs.Laws.Laid.{Writing, writing_start, writing-next, writing-fits, writing-done}

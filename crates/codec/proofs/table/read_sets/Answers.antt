@@ -1,0 +1,31 @@
+-- `codec::table::read_sets` meets its contract.
+use borrow.Author.Rules.{rules}
+use mathlib.Core.Path.{◌≡◌, refl}
+use Prim.Native.Nat.{◌-◌, ◌≤◌}
+use native.Mathlib.Omega.{arith}
+use mathlib.Core.Path.{◌∙◌}
+use mathlib.Core.List.{◌++◌}
+use lib.ListN.{length, take, drop, length-set}
+use Rattle.codec.specs.Bytes.{entries}
+use Rattle.codec.proofs.Laws.Bytes.{entries-length, entries_at}
+use Rattle.codec.proofs.Laws.Turns.{fill_more, fill_end}
+use Rattle.codec.proofs.table.read_sets.Goals as goal
+
+pub loop-i-init : goal.loop-i-init
+loop-i-init c = (search rules, refl, refl)
+
+pub loop-i-preserved : goal.loop-i-preserved
+loop-i-preserved c =
+    let a = c.args in
+    let l = c.loop-i in
+    let n = length a.sets.now in
+    let b = a.bytes.now in
+    (search rules, simp length-set l.invariant.1, fill_more l.sets a.sets.now (entries 8 n b) l.i l.invariant.2 (entries-length 8 n b) 0 (omega arith) (c.read_entry.ensures ∙ entries_at 8 n b l.i (omega arith)))
+
+pub returns : goal.returns
+returns c =
+    let a = c.args in
+    let l = c.loop-i in
+    let n = length a.sets.now in
+    let b = a.bytes.now in
+    fill_end l.sets a.sets.now (entries 8 n b) l.i l.invariant.2 (entries-length 8 n b) l.invariant.0 (omega arith)
