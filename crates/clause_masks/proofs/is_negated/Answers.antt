@@ -4,11 +4,7 @@ use lib.IntN.{pos}
 use lib.Signed.{lt_z}
 use mir.Facts.{to_z-of_z}
 use Rattle.clause_masks.proofs.Laws.Masks.{negative-is}
-use Rattle.clause_masks.proofs.is_negated.Statement.{statement}
-use Rattle.clause_masks.proofs.is_negated.Tie as tie
+use Rattle.clause_masks.proofs.is_negated.Goals as goal
 
-returns : tie.Need-returns
+pub returns : goal.returns
 returns c = ap (λ z. lt_z z (pos 0)) (to_z-of_z c.ranges.l) ∙ negative-is c.args.l
-
-pub is-negated-spec : {M : Type 1} → statement M
-is-negated-spec = tie.close (tie.spec returns)
