@@ -1,5 +1,4 @@
 -- `print_text`: the text ends inside its output.
-use borrow.Author.Rules.{rules}
 use mathlib.Core.Path.{sym}
 use lib.Seq.{length-take-le}
 use Rattle.formula_text.proofs.Laws.Written.{text-inside}

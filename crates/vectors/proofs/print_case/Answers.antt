@@ -1,5 +1,4 @@
 -- `print_case`: the line ends inside its output.
-use borrow.Author.Rules.{rules}
 use mathlib.Core.Path.{sym}
 use lib.Seq.{length-take-le}
 use Rattle.lines.proofs.Laws.Lines.{written-inside}

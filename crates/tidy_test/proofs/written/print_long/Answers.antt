@@ -1,5 +1,4 @@
 -- `print_long`: the text ends inside its output.
-use borrow.Author.Rules.{rules}
 use mathlib.Core.Path.{sym}
 use lib.Seq.{length-take-le}
 use native.Mathlib.Omega.{arith}
