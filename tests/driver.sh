@@ -4,7 +4,7 @@
 # (reference/checker/tests/listed.rs).
 set -eu
 cd "$(dirname "$0")/.."
-rt staticlib driver
+tests/fresh.sh target/staticlib/libdriver.a 2>/dev/null || tools/build driver
 out=target/driver
 mkdir -p "$out/other"
 strict="-std=c++17 -Wall -Wextra -Werror"

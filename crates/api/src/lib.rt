@@ -2,6 +2,7 @@
 // function there may ask something of its caller (`requires`), a public call asks nothing.
 // The calls of a C or C++ driver are those of the crate `driver`.
 #![tactic(auto)]
+
 pub use additions::{StepAnswer, Stepped};
 pub use dqbf::limits::{CLAUSE_LIMIT, LITERAL_LIMIT, RECORDS_LIMIT, TEXT_LIMIT, VARIABLE_LIMIT};
 pub use dqbf::refusal::Refusal;

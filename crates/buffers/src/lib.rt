@@ -1,5 +1,6 @@
 // Buffers: their sizes, and the tables in them.
 #![tactic(auto)]
+
 ghost use Rattle.std.specs.Prelude.{◌≡◌, cond, ◌*◌, ◌-◌, ◌≤◌, leb, length, replicate};
 ghost use Rattle.sets.specs.Words.{words_each, table_words, as_sets, table_of};
 ghost use Rattle.codec.specs.Bytes.{entries, bytes_of, literals_in, over};

@@ -1,5 +1,6 @@
 // What the clauses of a formula ask of families, setting by setting, and the families that they leave (document 02, Note 8).
 #![tactic(auto)]
+
 ghost use Rattle.std.specs.Prelude.{◌≡◌, ◌<◌, length};
 ghost use Rattle.dqbf.specs.Set as Set;
 ghost use Rattle.deciding.specs.Deciding.{literal_at, always_true, all_true};

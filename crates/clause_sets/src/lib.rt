@@ -1,5 +1,6 @@
 // Dependency sets of parts of a clause, before they are written. `sets` has the words of the sets of the variables 1, 2, ..
 #![tactic(auto)]
+
 ghost use Rattle.std.specs.Prelude.{◌≡◌, ◌<◌, ◌≤◌, nat_abs, length};
 ghost use Rattle.dqbf.specs.Limits.{width_limit};
 ghost use Rattle.dqbf.specs.Literal as Literal;

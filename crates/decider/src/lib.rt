@@ -1,5 +1,6 @@
 // Small formulas decided by trying every family (document 02, Note 8).
 #![tactic(auto)]
+
 ghost use Rattle.std.specs.Prelude.{◌≡◌, true, ◌*◌, ◌^◌, ◌≤◌, length};
 ghost use Rattle.dqbf.specs.Limits.{small_bits};
 ghost use Rattle.dqbf.specs.Spelled.{formula_in};

@@ -20,7 +20,7 @@ use Rattle.dqbf.specs.Record.{Record, resolution, reduction, fork, zeros, signed
 use Rattle.dqbf.specs.Rules.{add, no_room, clause_at, unknown, resolvent, resolving, resolution_test, resolution_order, resolution_tests_by, rule_tests_by, added, tests_by}
 use Rattle.dqbf.specs.Run.{Examined, accepts, refuses, judged, examine_by, examine, examine_or20_by, examine_or20, examine_bytes_by, examine_bytes, after, Ran, bad, go_on, run_from_by, run_from, run_by, run, Call, step_call, run_call, other_call, next_by, next}
 use Rattle.dqbf.specs.Cases.{hex_digits, paired, hex, wide_model}
-use Rattle.dqbf.specs.Statements.RuleIff.{reached_by, reached}
+use Rattle.dqbf.specs.Statements.RuleIff.{reached_by}
 use Rattle.dqbf.specs.Statements.ClashingVariable.{Clash}
 use Rattle.dqbf.specs.Statements.ClashBeforeWidth.{width_first, WideClash, StepCompared, StepsCompared, StoppedWide, RunCompared, RunsCompared, CallsCompared, SomeCompared}
 use Rattle.dqbf.proofs.Laws.Tests.{either, not-no, passed, some_is, first_some, first-none, first-swap}

@@ -8,7 +8,6 @@ use Prim.Native.Nat.{ℕ}
 use Rattle.dqbf.specs.Run.{Call}
 use Rattle.dqbf.specs.Model.{Model}
 use Rattle.dqbf.specs.Limits.{Room}
-use Rattle.dqbf.specs.Meaning.{given}
 use Rattle.dqbf.specs.Statements.RuleIff.{reached}
 use Rattle.dqbf.proofs.Soundness.Places.{Formula, Functions, Family, True, undeclared}
 use Rattle.dqbf.proofs.Soundness.View.{Good, view}

@@ -4,7 +4,7 @@
 -- A part of a clause that holds a variable with the set `top` contains the other part, so that no accepted fork has one: both parts of an accepted fork keep their
 -- sets. Sets that become smaller let reductions through and stop none. So a record gets the same answer in both models, or was refused with 27 or 29.
 use mathlib.Core.Path.{◌≡◌, refl, sym, ◌∙◌, ap, ap₂}
-use mathlib.Core.Logic.{◌⊎◌, inl, inr, ◌≢◌}
+use mathlib.Core.Logic.{◌⊎◌, inl, inr}
 use mathlib.Core.Bool.{Bool, true, false, cond, not, ◌||◌, true≢false}
 use mathlib.Core.List.Memᴰ
 use mathlib.Core.List.{List, [], ◌∷◌, ◌++◌, append-nil, append_assoc}

@@ -17,7 +17,6 @@ use Rattle.dqbf.specs.Statements.RunCount.{RunCount, Counted}
 use Rattle.dqbf.proofs.StepsKeepValid.{examine-keeps}
 use Rattle.dqbf.proofs.Additions.{additions}
 use Rattle.dqbf.proofs.Laws.Tests.{ltb-not}
-use Rattle.dqbf.specs.Refusal as Refusal
 
 module _ (room : Room) where
   -- an accepted record: a valid model of one step more

@@ -1,5 +1,6 @@
 // Families as bits of words, 64 to a word, and what a clause leaves of them (document 02, Note 8: "try every family").
 #![tactic(auto)]
+
 ghost use Rattle.std.specs.Prelude.{◌≡◌, ◌*◌, ◌<◌, length};
 ghost use Rattle.family_bits.specs.Left as Left;
 ghost use Rattle.family_bits.specs.Left.{word_bits, is_left, Marks, Narrowed};

@@ -1,5 +1,6 @@
 // The formula part of the tables as DQDIMACS (document 02, Note 1).
 #![tactic(auto)]
+
 ghost use Rattle.std.specs.Prelude.{◌≡◌, true, ltb, length};
 ghost use Rattle.tables.specs.Tables.{tables_of, cut, model_in};
 ghost use Rattle.tables.specs.WellFormed.{long, well_formed};

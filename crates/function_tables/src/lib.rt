@@ -1,5 +1,6 @@
 // The function tables of a formula's existentials, one behind the other as bits of a family's number (document 02, Note 8).
 #![tactic(auto)]
+
 ghost use Rattle.std.specs.Prelude.{◌≡◌, cond, ◌^◌, ◌≤◌, ◌<◌, eqb, length};
 ghost use Rattle.dqbf.specs.Limits.{small_universals};
 ghost use Rattle.dqbf.specs.Set as Set;

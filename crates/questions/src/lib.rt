@@ -1,5 +1,6 @@
 // Questions about the tables, which change nothing (document 01, "The four lent tables"): a shown clause, the length of a clause, kind and set size of a variable.
 #![tactic(auto)]
+
 ghost use Rattle.std.specs.Prelude.{◌≡◌};
 ghost use Rattle.tables.specs.Tables.{tables_of};
 ghost use Rattle.questions.specs.Answers.{Shown, length_told, length_answer, variable_told, variable_answer};

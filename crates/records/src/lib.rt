@@ -1,5 +1,6 @@
 // Step records (document 01, "Step records"): sixteen bytes each, little-endian.
 #![tactic(auto)]
+
 ghost use Rattle.std.specs.Prelude.{◌≡◌, ◌+◌, ◌<◌, ◌≤◌, length};
 ghost use Rattle.std.proofs.Math.Seq.{slice};
 ghost use Rattle.dqbf.specs.Bytes.{number};

@@ -1,5 +1,6 @@
 // Results: one number of four 16-bit fields. The case is never 0.
 #![tactic(auto)]
+
 ghost use Rattle.std.specs.Prelude.{◌≡◌};
 ghost use Rattle.results.specs.Results.{packed, load_result, run_result, clause_result, stretch_result, variable_result, write_result};
 ghost use Rattle.dqbf.specs.Refusal.{refusal_told};

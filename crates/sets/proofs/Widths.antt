@@ -1,7 +1,7 @@
 -- The instances: document 01's one word for a set, and Note 6's four.
-use mathlib.Core.Path.{◌≡◌, ap, ◌∙◌}
-use mathlib.Core.List.{List, [], ◌∷◌}
-use Prim.Native.Nat.{ℕ, ◌+◌, ◌*◌, ◌^◌}
+use mathlib.Core.Path.{◌≡◌}
+use mathlib.Core.List.{[], ◌∷◌}
+use Prim.Native.Nat.{ℕ, ◌^◌}
 use native.Mathlib.Nat.{zero-add, zero-mul}
 use lib.Dec.{lit<}
 use Rattle.sets.specs.Words.{as_set, words_each}

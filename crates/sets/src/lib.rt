@@ -1,6 +1,7 @@
 // Dependency sets as four 64-bit words, lowest bits first, taken and returned by value (document 02, Note 6), and the table that has four words for each variable.
 // The laws are for any number of words (specs/Statements.antt); here are the leaves of the tables' width.
 #![tactic(auto)]
+
 ghost use Rattle.std.specs.Prelude.{◌≡◌, ◌-◌, ◌^◌, ◌≤◌, ◌<◌, min, eqb, length, get_or};
 ghost use Rattle.std.proofs.Math.ListN as List;
 ghost use Rattle.dqbf.specs.Limits.{universal_limit};

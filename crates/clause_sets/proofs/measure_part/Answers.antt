@@ -1,14 +1,12 @@
-use mathlib.Core.Path.{◌≡◌, refl}
-use Prim.Native.Nat.{◌-◌, ◌≤◌, ◌<◌}
+use mathlib.Core.Path.{refl}
+use Prim.Native.Nat.{◌-◌}
 use native.Mathlib.Omega.{arith}
 use borrow.Author.Rules.{rules}
 use lib.Bits.{bit_and, and_le_r}
-use lib.Count.{count_trailing_zeros, trailing_le}
-use lib.ListN.{length}
-use Rattle.dqbf.specs.Literal.{pick}
+use lib.Count.{trailing_le}
 use Rattle.clauses.proofs.Laws.Clauses.{pick-few, lowest-there, lowest-picked, none-picked}
 use Rattle.sets.specs.Words.{words_each, as_set, as_sets}
-use Rattle.clause_sets.proofs.Laws.Sets.{Measuring, measuring-start, measuring-more, measuring-done, set_there}
+use Rattle.clause_sets.proofs.Laws.Sets.{measuring-start, measuring-more, measuring-done, set_there}
 use Rattle.clause_sets.proofs.measure_part.Goals as goal
 
 pub overflow_cast-at : goal.overflow_cast-at

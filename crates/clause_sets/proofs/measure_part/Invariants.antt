@@ -1,14 +1,10 @@
-use mathlib.Core.Path.{◌≡◌, refl}
-use Prim.Native.Nat.{◌-◌, ◌≤◌, ◌<◌}
-use native.Mathlib.Omega.{arith}
-use borrow.Author.Rules.{rules}
-use lib.Bits.{bit_and, and_le_r}
-use lib.Count.{count_trailing_zeros, trailing_le}
+use mathlib.Core.Path.{◌≡◌}
+use Prim.Native.Nat.{◌≤◌}
+use lib.Count.{count_trailing_zeros}
 use lib.ListN.{length}
 use Rattle.dqbf.specs.Literal.{pick}
-use Rattle.clauses.proofs.Laws.Clauses.{pick-few, lowest-there, lowest-picked, none-picked}
 use Rattle.sets.specs.Words.{words_each, as_set, as_sets}
-use Rattle.clause_sets.proofs.Laws.Sets.{Measuring, measuring-start, measuring-more, measuring-done, set_there}
+use Rattle.clause_sets.proofs.Laws.Sets.{Measuring}
 use Rattle.clause_sets.proofs.measure_part.Given as goal
 
 abbrev pub invariant-loop-at : goal.invariant-loop-at

@@ -1,7 +1,6 @@
 use mathlib.Core.Path.{sym, ◌∙◌}
 use native.Mathlib.Omega.{arith}
 use Rattle.clause_sets.proofs.Laws.Sets.{variable-read, set_at}
-use borrow.Author.Rules.{rules}
 use Rattle.clause_sets.proofs.set_of.Goals as goal
 
 pub overflow_sub-at : goal.overflow_sub-at

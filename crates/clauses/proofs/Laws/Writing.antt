@@ -4,12 +4,12 @@
 -- `tail-room`, what a writer requires that is lent the tail of a table from n on.
 use mathlib.Core.Path.{◌≡◌, refl, ap, sym, ◌∙◌}
 use mathlib.Core.List.{List, [], ◌∷◌, ◌++◌, append-nil}
-use Prim.Native.Nat.{ℕ, suc, ◌+◌, ◌-◌, ◌<◌, ◌≤◌}
+use Prim.Native.Nat.{ℕ, ◌+◌, ◌-◌, ◌<◌, ◌≤◌}
 use native.Mathlib.Numerals.{add-one}
 use native.Mathlib.Omega.{arith}
 use borrow.Rule.Slice.PartMut.{put_mid}
 use lib.ListN.{length, take, drop, set, length-set, length-append, length-drop, length-take, take-append-drop}
-use lib.Seq.{append_snoc, length-take-le, drop-set-lt, take-set-le, take-suc-set, drop-drop, take-append_seam, set_split}
+use lib.Seq.{append_snoc, length-take-le, drop-set-lt, take-suc-set, drop-drop, take-append_seam}
 use Rattle.dqbf.proofs.Laws.Parts.{front-part, tail-lent}
 use Rattle.clauses.specs.Writing.{Written, Copied}
 

@@ -1,6 +1,6 @@
 -- Truth under a family's number: of a formula (dqbf, specs/Meaning.antt) and of its model (specs/Deciding.antt).
 use mathlib.Core.Path.{◌≡◌, refl, sym, ◌∙◌, ap, ap₂}
-use mathlib.Core.Logic.{◌⊎◌, inl, inr, ◌≢◌}
+use mathlib.Core.Logic.{◌⊎◌, inl, inr}
 use mathlib.Core.Bool.{Bool, true, false, ◌||◌, false≢true}
 use mathlib.Core.Option.{none, some}
 use mathlib.Core.List.Memᴰ
@@ -36,6 +36,7 @@ at-below (suc n) P h = both (P 0) (all_below n (λ i. P (suc i))) (h 0 (omega ar
 
 pub all-at : (m : Model) (f : ℕ) (Cs : List Clause) → all_true m f Cs ≡ true → (C : Clause) → C ∈ Cs → always_true m f C ≡ true
 unfolding all_true
+all-at m f [] h C x'' = elim x'' [ ]
 all-at m f (D ∷ Cs) h C (Memᴰ.head e) = rw e (and_left (always_true m f D) (all_true m f Cs) h)
 all-at m f (D ∷ Cs) h C (Memᴰ.tail q) = all-at m f Cs (and_right (always_true m f D) (all_true m f Cs) h) C q
 

@@ -23,7 +23,6 @@ use Rattle.dqbf.proofs.Laws.Lists.{nth}
 use Rattle.dqbf.proofs.Laws.Order.{resolvent-order}
 use Rattle.dqbf.proofs.Laws.Tests.{ltb_no, ltb-not, no_or, or_no}
 use Rattle.dqbf.proofs.Soundness.View.{length-kinds}
-use Rattle.dqbf.specs.Refusal as Refusal
 
 -- ---- what an examined record adds
 

@@ -1,7 +1,7 @@
 -- Lists that are written piece by piece, and parts of a slice that are lent and come back. Any element type.
 -- `X ++ drop (length X) l` is l with X written over its front. A part `&s[a..b]` is `take (b - a) (drop a s)`; a part `&mut s[n..]` that comes back at
 -- ys leaves `put_mid n (length s - n) s ys`.
-use mathlib.Core.Path.{◌≡◌, sym, ◌∙◌, ap}
+use mathlib.Core.Path.{◌≡◌, sym, ◌∙◌}
 use mathlib.Core.List.{List, [], ◌∷◌, ◌++◌, append_assoc, append-nil}
 use Prim.Native.Nat.{ℕ, suc, ◌+◌, ◌-◌, ◌≤◌, ◌<◌}
 use native.Mathlib.Nat.{le_antisymm}

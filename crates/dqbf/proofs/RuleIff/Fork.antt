@@ -17,8 +17,6 @@ use Rattle.dqbf.specs.Rules.{Addition, clause_at, unknown, forking, fork_tests, 
 use Rattle.dqbf.specs.Run.{accepts, examine}
 use Rattle.dqbf.specs.Valid.{InOrder, Valid}
 use Rattle.dqbf.specs.Published.{FEx, Fits}
-use Rattle.dqbf.specs.Formula.{universals}
-use Rattle.dqbf.specs.Reading.{fresh}
 use Rattle.dqbf.proofs.Laws.Tests.{never, no-not, no_or, not-no, or_no, pass, passed}
 use Rattle.dqbf.proofs.Laws.Order.{ascending-in-order, in-order-same, more-ascending, pick-ascending}
 use Rattle.dqbf.proofs.Laws.Masks.{covers-from, covers-to, pick_is}

@@ -15,8 +15,6 @@ use Rattle.dqbf.specs.Rules.{Addition, clause_at, unknown, reducing, reads, redu
 use Rattle.dqbf.specs.Run.{accepts, examine}
 use Rattle.dqbf.specs.Valid.{Valid}
 use Rattle.dqbf.specs.Published.{Red, Fits}
-use Rattle.dqbf.specs.Cases.{left}
-use Rattle.dqbf.specs.Formula.{universal}
 use Rattle.dqbf.proofs.Laws.Tests.{eqb_is, never, no-not, not-no, pass, passed}
 use Rattle.dqbf.proofs.Laws.Order.{ascending-in-order, ascending-pure, in-order-same, without-ascending}
 use Rattle.dqbf.proofs.Laws.Clauses.{holds-in, in-holds, stays, without_in}

@@ -1,7 +1,7 @@
 -- The lines of a valid model pass the reader's tests (specs/Reading.antt), and what is read is `formula_of` (specs/Spelled.antt).
 -- Each law reads the lines of one kind and goes on with those behind them; how many lines were read does not matter to an accepted text.
 use mathlib.Core.Path.{◌≡◌, refl, sym, ◌∙◌, ap}
-use mathlib.Core.Logic.{◌⊎◌, inl, inr, ◌≢◌}
+use mathlib.Core.Logic.{◌⊎◌, inl, inr}
 use mathlib.Core.Bool.{true, false, not, ◌&&◌, ◌||◌, false≢true}
 use mathlib.Core.List.Memᴰ
 use mathlib.Core.List.{List, [], ◌∷◌, ◌++◌, map, map-append, append-nil, append_assoc}

@@ -1,6 +1,6 @@
 -- What an accepted step adds, and that nothing else changes (demand 2: "adds just the clauses and the variable of that rule"; document 01, "A fork never
 -- makes a clause too wide, since both parts are smaller than the clause").
-use Rattle.std.specs.Prelude.{◌≡◌, List, ◌++◌, ℕ, suc, ◌+◌, ◌<◌, length}
+use Rattle.std.specs.Prelude.{◌≡◌, ◌++◌, ℕ, suc, ◌+◌, ◌<◌, length}
 use Rattle.dqbf.specs.Limits.{Room}
 use Rattle.dqbf.specs.Literal.{pick}
 use Rattle.dqbf.specs.Model.{Model, clauses, used, steps}

@@ -33,7 +33,6 @@ use Rattle.tables.proofs.Laws.Unusable.{usable, first-is, none_lent, none-formed
 use Rattle.tables.proofs.Laws.Spread.{valid-held}
 use Rattle.tables.proofs.Laws.Adding.{variable-count}
 use Rattle.tables.proofs.Laws.Entries.{unknown-told, clause-at, range-rises, range-ends, range_length, range-narrow, kind-told, set_told}
-use Rattle.questions.specs.declared.VariableAnswer.TheVariants as Variable
 use Rattle.questions.specs.Answers.{length_answer, variable_answer, shown_clause, shown_start, literal_size, Shown}
 
 -- an answer where a refusal comes first, and where none does

@@ -1,6 +1,5 @@
 -- `questions::clause_length` meets its contract.
 use native.Mathlib.Omega.{arith}
-use borrow.Author.Rules.{rules}
 use Rattle.tables.specs.Tables.{Tables, tables_of}
 use Rattle.questions.specs.Answers.{length_told}
 use Rattle.questions.proofs.Laws.Outcomes.{length-refused, clause-zero, clause-past, length-unknown, range-asks, range-ordered, range-short, length-told}

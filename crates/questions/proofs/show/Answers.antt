@@ -1,6 +1,5 @@
 use mathlib.Core.Path.{refl}
 use native.Mathlib.Omega.{arith}
-use borrow.Author.Rules.{rules}
 use Rattle.tables.specs.Tables.{Tables, tables_of}
 use Rattle.questions.proofs.Laws.Outcomes.{shown-refused, clause-zero, clause-past, shown-unknown, range-asks, range-ordered, range_inside, shown-told}
 use Rattle.questions.proofs.show.Goals as goal

@@ -1,6 +1,5 @@
 -- `questions::variable` meets its contract.
 use native.Mathlib.Omega.{arith}
-use borrow.Author.Rules.{rules}
 use Rattle.tables.specs.Tables.{Tables, tables_of}
 use Rattle.questions.specs.Answers.{variable_told}
 use Rattle.questions.proofs.Laws.Outcomes.{variable-refused, variable-zero, variable-past, variable-told}

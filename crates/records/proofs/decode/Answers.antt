@@ -1,7 +1,6 @@
 -- `decode` meets its contract.
 use mathlib.Core.Logic.{inl, inr}
 use mathlib.Core.Path.{◌∙◌}
-use native.Mathlib.Omega.{arith}
 use mir.Syntax.{w32}
 use mir.Facts.{to_z-of_z}
 use borrow.Author.Rules.{rules, sfits_of}
@@ -16,9 +15,9 @@ pub returns-then-bytes-ne0 : goal.returns-then-bytes-ne0
 returns-then-bytes-ne0 c =
     let refused = not-zero c.args.bytes.now c.if-bytes-lt-RECORD_SIZE.false in
     elim c.then-bytes-ne0.branch [
-      then-bytes-ne0-via-then-bytes-ne0 w ↦ refused (inl w.if-bytes-ne0.true)
-    | then-bytes-ne0-via-else-bytes-ne0+then-bytes-ne0-2 w ↦ refused (inr (inl w.if-bytes-ne0-2.true))
-    | then-bytes-ne0-via-else-bytes-ne0+else-bytes-ne0-2+then-bytes-ne0-3 w ↦ refused (inr (inr w.if-bytes-ne0-3.true))
+      | then-bytes-ne0-via-then-bytes-ne0 w ↦ refused (inl w.if-bytes-ne0.true)
+      | then-bytes-ne0-via-else-bytes-ne0+then-bytes-ne0-2 w ↦ refused (inr (inl w.if-bytes-ne0-2.true))
+      | then-bytes-ne0-via-else-bytes-ne0+else-bytes-ne0-2+then-bytes-ne0-3 w ↦ refused (inr (inr w.if-bytes-ne0-3.true))
     ]
 
 pub returns-then-second-ne0 : goal.returns-then-second-ne0
@@ -62,5 +61,5 @@ returns-in_default c =
     let long = c.if-bytes-lt-RECORD_SIZE.false in
     let behind = zeros-behind c.args.bytes.now long c.if-bytes-ne0.false c.if-bytes-ne0-2.false c.if-bytes-ne0-3.false in
     let r : Read c.args.bytes.now c.number_at-clause.result c.number_at-second.result c.number_at-third.result =
-      record { long = long; behind = behind; first = c.number_at-clause.ensures; second = c.number_at-second.ensures; third = c.number_at-third.ensures } in
+    record { long = long; behind = behind; first = c.number_at-clause.ensures; second = c.number_at-second.ensures; third = c.number_at-third.ensures } in
     no_kind r (search rules) (search rules) (search rules)

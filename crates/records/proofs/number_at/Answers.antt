@@ -1,6 +1,4 @@
 -- `number_at` meets its contract.
-use borrow.Author.Rules.{rules}
-use borrow.Author.Rules.{rules}
 use native.Mathlib.Omega.{arith}
 use Rattle.records.proofs.Laws.Records.{number-four}
 use Rattle.records.proofs.number_at.Goals as goal

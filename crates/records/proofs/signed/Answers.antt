@@ -1,6 +1,4 @@
 -- `signed` meets its contract.
-use borrow.Author.Rules.{rules}
-use borrow.Author.Rules.{rules}
 use Prim.Native.Nat.{◌-◌}
 use native.Mathlib.Omega.{arith}
 use Rattle.records.proofs.Laws.Signed.{low_half, high_fits, high_half}

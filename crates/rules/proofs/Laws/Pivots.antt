@@ -1,13 +1,12 @@
 -- A record's 32-bit literal against the 16-bit literals of a clause: `literal_in` (dqbf, specs/Literal.antt) is the literal itself where it stands in a kept
 -- clause, and stands in none where it is not.
 use mathlib.Core.Path.{◌≡◌, refl, sym, ◌∙◌, ap}
-use mathlib.Core.Logic.{◌⊎◌, inl, inr, ◌≢◌}
-use mathlib.Core.Bool.{Bool, true, false, cond, true≢false}
-use Prim.Native.Nat.{ℕ, ◌≤◌, ◌<◌}
+use mathlib.Core.Bool.{true, false}
+use Prim.Native.Nat.{◌≤◌, ◌<◌}
 use native.Mathlib.Decide.{dec_lt}
 use native.Mathlib.Omega.{arith}
 use borrow.Author.Tests.{le-leb, lt-leb}
-use lib.IntN.{ℤ, pos, nat_abs, neg_ℤ}
+use lib.IntN.{ℤ, pos, nat_abs}
 use Rattle.dqbf.specs.Limits.{Room, literal_range}
 use Rattle.dqbf.specs.Literal.{Clause, ◌∈◌, literal_in, holds}
 use Rattle.dqbf.specs.Model.{Model, clauses, used, kind_of}

@@ -3,7 +3,7 @@ use mathlib.Core.Path.{◌≡◌, refl, sym, ◌∙◌, ap}
 use mathlib.Core.Logic.{◌⊎◌, inl, inr, ◌≢◌}
 use mathlib.Core.Bool.{Bool, true, false, not, ◌&&◌, ◌||◌, true≢false}
 use mathlib.Core.List.{List, [], ◌∷◌, ◌++◌}
-use Prim.Native.Nat.{ℕ, zero, suc, ◌+◌, ◌-◌, ◌*◌, ◌≤◌, ◌<◌}
+use Prim.Native.Nat.{ℕ, zero, suc, ◌-◌, ◌*◌, ◌≤◌, ◌<◌}
 use native.Mathlib.Omega.{arith}
 use borrow.Author.Tests.{eq-eqb, ne_eqb, lt-ltb, le-ltb}
 use lib.Dec.{eqb, ltb}
@@ -13,7 +13,7 @@ use lib.Seq.{length-take-le}
 use Rattle.dqbf.specs.Limits.{tables, width_limit, literal_range}
 use Rattle.dqbf.specs.Literal.{Clause, ◌∈◌, literal_in, holds, without, join, clashes, pick, covers}
 use Rattle.dqbf.specs.Set.{Set, single, inside, common}
-use Rattle.dqbf.specs.Model.{Model, clauses, used, kind_of, set_of, clause_set}
+use Rattle.dqbf.specs.Model.{Model, used, kind_of, set_of, clause_set}
 use Rattle.dqbf.specs.Record.{resolution, reduction, fork}
 use Rattle.dqbf.specs.Rules.{unknown, clause_at, no_room, resolvent, resolving, reads, reducing, forking}
 use Rattle.dqbf.specs.Run.{Examined, examine}

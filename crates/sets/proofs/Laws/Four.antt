@@ -2,25 +2,25 @@
 use mathlib.Core.Path.{◌≡◌, refl, sym, subst, ◌∙◌, ap, ap₂}
 use mathlib.Core.Logic.{◌⊎◌, inl, inr}
 use mathlib.Core.Bool.{Bool, true, false, ◌&&◌}
-use mathlib.Core.List.{List, [], ◌∷◌, ◌++◌, append_assoc}
+use mathlib.Core.List.{List, [], ◌∷◌, ◌++◌}
 use Prim.Native.Nat.{ℕ, zero, suc, ◌+◌, ◌-◌, ◌*◌, ◌/◌, ◌%◌, ◌^◌, ◌≤◌, ◌<◌, min}
-use native.Mathlib.Nat.{one-mul, add-zero, zero-add, zero-mul, sub-zero, mul_assoc, mul_comm}
+use native.Mathlib.Nat.{one-mul, add-zero, zero-add, sub-zero, mul_assoc, mul_comm}
 use borrow.Author.Tests.{leb-true, leb-false}
 use native.Mathlib.Numerals.{add-one}
 use native.Mathlib.Omega.{arith}
 use lib.Bits.{bit_and, bit_or}
 use lib.Count.{ones, ones-le}
-use lib.Dec.{eqb, ltb, leb, lit<}
+use lib.Dec.{eqb, leb, lit<}
 use lib.ListN.{length, get_or, set, take, drop, replicate, length-drop}
-use lib.Pow.{pow-add, pow_pos, shl_exact, ones_split, suc_ones}
-use lib.Seq.{drop-cons, drop-drop, get_or-drop, sets-eq}
+use lib.Pow.{pow-add, pow_pos, shl_exact, ones_split}
+use lib.Seq.{get_or-drop, sets-eq}
 use mir.Syntax.{w64}
 use mir.Val.{Val}
 use denote.Array.{Array, each}
 use denote.Laws.{Is}
 use denote.Plain.{UInt}
 use denote.Shadow.{shadow}
-use Rattle.dqbf.specs.Set.{Set, empty_set, single, union, common, inside, size}
+use Rattle.dqbf.specs.Set.{empty_set, single, union, common, inside, size}
 use Rattle.dqbf.proofs.Laws.Tests.{either}
 use Rattle.sets.specs.Words.{Words, as_set, union_each, common_each, inside_each, size_each, none_each, same_each, as_sets, spare_in}
 use Rattle.sets.proofs.Laws.Words.{union-set, common-set, inside-set, size-set, none-set, same_set}

@@ -5,21 +5,20 @@
 --     sets-none                          sets are empty exactly if the words are 0
 --     table-back, sets-back              the words from the sets, and back
 --     one_table, one-spare               one word for each
-use mathlib.Core.Path.{◌≡◌, refl, sym, ◌∙◌, ap, ap₂}
+use mathlib.Core.Path.{◌≡◌, refl, sym, ◌∙◌, ap}
 use mathlib.Core.Logic.{◌⊎◌, inl, inr}
 use mathlib.Core.Bool.{Bool, true, false, ◌&&◌}
-use mathlib.Core.List.{List, [], ◌∷◌, ◌++◌, append_assoc}
-use Prim.Native.Nat.{ℕ, zero, suc, ◌+◌, ◌-◌, ◌*◌, ◌/◌, ◌%◌, ◌^◌, ◌≤◌, ◌<◌}
-use native.Mathlib.Nat.{zero-add, suc-add, add-zero, mul-suc, mul-zero, mul_comm, mul-add-div, mul-div_right, le-div_iff_mul-le, mul-div-le, mul-le-mul_left, div-one, div_self, one-mul, zero-mul}
+use mathlib.Core.List.{List, [], ◌∷◌, ◌++◌}
+use Prim.Native.Nat.{ℕ, zero, suc, ◌+◌, ◌-◌, ◌*◌, ◌/◌, ◌^◌, ◌≤◌, ◌<◌}
+use native.Mathlib.Nat.{zero-add, suc-add, mul-suc, mul-zero, mul_comm, mul-add-div, mul-div_right, le-div_iff_mul-le, mul-div-le, mul-le-mul_left, div-one, div_self, one-mul, zero-mul}
 use native.Mathlib.Omega.{arith}
 use borrow.Author.Tests.{eq-eqb, ne_eqb, eqb-true, eqb-false, ltb-true, ltb-false}
 use lib.Dec.{eqb, ltb}
 use lib.ListN.{length, take, drop, set, get_or, replicate, length-append, length-take, length-drop, length-replicate, take-append-drop, replicate-append-replicate, get_or-eq_default}
 use lib.Seq.{take_all, take_at, drop_at, take-append-le, drop-append-le, length-take-le, drop-drop, append_snoc, set_split, take-length, drop-length, take-add, get_or-take, get_or-drop}
 use lib.Pow.{pow_pos}
-use Rattle.dqbf.specs.Set.{Set}
 use Rattle.dqbf.proofs.Laws.Tests.{either}
-use Rattle.sets.specs.Words.{Words, as_set, words_of, none_each, first_sets, as_sets, spare_in, table_of}
+use Rattle.sets.specs.Words.{Words, as_set, none_each, first_sets, as_sets, spare_in, table_of}
 use Rattle.sets.proofs.Laws.Words.{words_back}
 
 -- ---- of one set

@@ -6,7 +6,7 @@
 --     sets-room, sets-kept         room for so many sets, in words; as many words have room for as many sets
 use mathlib.Core.Path.{◌≡◌, refl, sym, ◌∙◌, ap}
 use mathlib.Core.List.{List, [], ◌∷◌, ◌++◌, append_assoc}
-use Prim.Native.Nat.{ℕ, zero, suc, ◌+◌, ◌*◌, ◌/◌, ◌^◌, ◌<◌, ◌≤◌}
+use Prim.Native.Nat.{ℕ, zero, suc, ◌*◌, ◌/◌, ◌^◌, ◌<◌, ◌≤◌}
 use native.Mathlib.Nat.{add_comm, mul-suc, mul-one, mul-zero, mul-div_right, zero-div, zero-mod}
 use native.Mathlib.Omega.{arith}
 use lib.Dec.{lit<}
@@ -14,7 +14,7 @@ use lib.ListN.{length, get_or, drop, replicate, length-append, drop_of_length-le
 use lib.Seq.{drop_at, drop-drop}
 use lib.Pow.{pow_pos}
 use Rattle.dqbf.specs.Set.{Set}
-use Rattle.sets.specs.Words.{Words, words_each, table_words, as_set, words_of, first_sets, as_sets, spare_in, table_of}
+use Rattle.sets.specs.Words.{Words, words_each, table_words, words_of, first_sets, as_sets, spare_in, table_of}
 use Rattle.sets.proofs.Laws.Words.{words-of, set_back}
 use Rattle.sets.proofs.Laws.Sets.{sets-length, sets-append, sets-one}
 

@@ -1,19 +1,19 @@
 -- Words and the set that they hold, for any number of words, one word at a time.
 use mathlib.Core.Path.{◌≡◌, refl, sym, ◌∙◌, ap, ap₂}
 use mathlib.Core.Logic.{◌⊎◌, inl, inr}
-use mathlib.Core.Bool.{Bool, true, false, ◌&&◌, true≢false}
+use mathlib.Core.Bool.{true, false, ◌&&◌}
 use mathlib.Core.List.{List, [], ◌∷◌}
-use Prim.Native.Nat.{ℕ, zero, suc, ◌+◌, ◌*◌, ◌/◌, ◌%◌, ◌^◌, ◌≤◌, ◌<◌}
-use native.Mathlib.Nat.{mod-lt, mul_comm, zero-mul, zero-add}
+use Prim.Native.Nat.{ℕ, zero, suc, ◌+◌, ◌*◌, ◌/◌, ◌%◌, ◌^◌, ◌<◌}
+use native.Mathlib.Nat.{mod-lt}
 use native.Mathlib.Omega.{arith}
 use borrow.Author.Tests.{eq-eqb, ne_eqb, eqb-true, eqb-false}
 use lib.Arith.{digits_lt}
-use lib.Bits.{bit_and, bit_or, or_block, and_block, or_lt, and_lt}
-use lib.Count.{ones, ones_cat, ones-ones}
+use lib.Bits.{or_block, and_block, or_lt, and_lt}
+use lib.Count.{ones_cat, ones-ones}
 use lib.Dec.{eqb}
 use lib.Pow.{pow-add, pow_pos, high, low, split, shr_lt}
 use Rattle.dqbf.specs.Set.{Set, empty_set, union, common, inside, size}
-use Rattle.dqbf.proofs.Laws.Tests.{either, never}
+use Rattle.dqbf.proofs.Laws.Tests.{either}
 use Rattle.sets.specs.Words.{Words, as_set, words_of, union_each, common_each, inside_each, size_each, none_each, same_each}
 
 -- ---- as_set, words_of

@@ -1,5 +1,4 @@
 use Rattle.sets.proofs.Laws.Four.{array-words, common-four}
-use borrow.Author.Rules.{rules}
 use Rattle.sets.proofs.common.Goals as goal
 
 pub returns : goal.returns

@@ -1,5 +1,4 @@
 use Rattle.sets.proofs.Laws.Four.{array-words, inside-four}
-use borrow.Author.Rules.{rules}
 use Rattle.sets.proofs.inside.Goals as goal
 
 pub returns : goal.returns

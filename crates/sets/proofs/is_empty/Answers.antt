@@ -1,5 +1,4 @@
 use Rattle.sets.proofs.Laws.Four.{array-words, none-four}
-use borrow.Author.Rules.{rules}
 use Rattle.sets.proofs.is_empty.Goals as goal
 
 pub returns : goal.returns

@@ -1,5 +1,4 @@
 use Rattle.sets.proofs.Laws.Four.{lowest-four}
-use borrow.Author.Rules.{rules}
 use Rattle.sets.proofs.lowest.Goals as goal
 
 pub returns : goal.returns

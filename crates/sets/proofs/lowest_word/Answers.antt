@@ -1,5 +1,4 @@
 use Rattle.sets.proofs.Laws.Four.{low-none, low-all, low-some}
-use borrow.Author.Rules.{rules}
 use Rattle.sets.proofs.lowest_word.Goals as goal
 
 pub returns-then-count-from : goal.returns-then-count-from

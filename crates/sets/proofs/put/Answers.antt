@@ -1,7 +1,6 @@
 use native.Mathlib.Omega.{arith}
 use lib.ListN.{length-set}
 use Rattle.sets.proofs.Laws.Four.{array-words, room-four, put_four}
-use borrow.Author.Rules.{rules}
 use Rattle.sets.proofs.put.Goals as goal
 
 pub overflow_mul-at : goal.overflow_mul-at

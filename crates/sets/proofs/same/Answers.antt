@@ -1,5 +1,4 @@
 use Rattle.sets.proofs.Laws.Four.{array-words, same-four}
-use borrow.Author.Rules.{rules}
 use Rattle.sets.proofs.same.Goals as goal
 
 pub returns : goal.returns

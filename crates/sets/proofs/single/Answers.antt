@@ -1,5 +1,4 @@
 use Rattle.sets.proofs.Laws.Four.{single-four}
-use borrow.Author.Rules.{rules}
 use Rattle.sets.proofs.single.Goals as goal
 
 pub returns : goal.returns

@@ -1,6 +1,5 @@
 use Rattle.sets.proofs.Laws.Four.{array-words, size-four, size_word}
 use native.Mathlib.Omega.{arith}
-use borrow.Author.Rules.{rules}
 use Rattle.sets.proofs.size.Goals as goal
 
 pub overflow_add-result : goal.overflow_add-result

@@ -11,7 +11,6 @@ use Rattle.dqbf.specs.Run.{refuses, examine, examine_or20_by, examine_bytes, exa
 use Rattle.records.specs.Record.{step_in, decoded_in}
 use Rattle.records.specs.declared.Step.{Step}
 use Rattle.records.specs.declared.Decoded.{Decoded}
-use Rattle.records.specs.declared.Decoded.TheVariants as Decoded
 use Rattle.tables.specs.Tables.{Tables, model_in}
 use Rattle.tables.specs.declared.State.{State}
 use Rattle.additions.specs.Examined.{examined}

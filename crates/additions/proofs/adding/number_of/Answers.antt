@@ -1,4 +1,3 @@
-use borrow.Author.Rules.{rules}
 use Rattle.additions.proofs.Laws.Adding.{number-23, number-24, number-25, number-0}
 use Rattle.additions.proofs.adding.number_of.Goals as goal
 

@@ -1,4 +1,3 @@
-use borrow.Author.Rules.{rules}
 use Rattle.additions.proofs.Laws.Adding.{clash-23, clash-other}
 use Rattle.additions.proofs.adding.refused_resolvent.Goals as goal
 

@@ -1,4 +1,3 @@
-use borrow.Author.Rules.{rules}
 use Rattle.clauses.proofs.Laws.Writing.{written-copied}
 use Rattle.clauses.proofs.held.hold.Goals as goal
 

@@ -1,17 +1,7 @@
-use mathlib.Core.Path.{◌≡◌, sym, ◌∙◌}
+use mathlib.Core.Path.{◌≡◌}
 use Prim.Native.Nat.{◌+◌, ◌-◌, ◌≤◌}
-use native.Mathlib.Nat.{zero-add}
-use native.Mathlib.Omega.{arith}
-use borrow.Author.Rules.{rules}
-use lib.IntN.{pos}
 use lib.ListN.{length, drop}
-use mir.Syntax.{w16}
-use mir.Val.{to_z}
-use mir.Facts.{to_z-of_z}
 use Rattle.clauses.specs.Places.{place_of}
-use Rattle.clauses.proofs.Laws.Places.{list-front, list-end}
-use Rattle.clauses.proofs.Laws.Literals.{bits-same, bits-differ}
-use Rattle.clauses.proofs.Laws.Clauses.{place_found, place-passed, place_end}
 use Rattle.clauses.proofs.tests.place_of.Given as goal
 
 abbrev pub invariant-loop-i : goal.invariant-loop-i

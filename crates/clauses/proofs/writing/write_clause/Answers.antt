@@ -1,12 +1,10 @@
 -- `writing::write_clause`: what is written and what is left make the clause.
-use Prim.Native.Nat.{◌-◌, ◌≤◌}
 use native.Mathlib.Omega.{arith}
 use borrow.Author.Rules.{rules}
 use lib.IntN.{pos}
-use lib.ListN.{length, drop}
 use Rattle.dqbf.proofs.Laws.Signed.{kept16}
 use Rattle.clauses.proofs.Laws.Places.{list-front, list-end}
-use Rattle.clauses.proofs.Laws.Writing.{Writing, writing_start, writing_more, writing-done}
+use Rattle.clauses.proofs.Laws.Writing.{writing_start, writing_more, writing-done}
 use Rattle.clauses.proofs.writing.write_clause.Goals as goal
 
 pub loop-place-init : goal.loop-place-init

@@ -1,11 +1,6 @@
 use Prim.Native.Nat.{◌-◌, ◌≤◌}
-use native.Mathlib.Omega.{arith}
-use borrow.Author.Rules.{rules}
-use lib.IntN.{pos}
 use lib.ListN.{length, drop}
-use Rattle.dqbf.proofs.Laws.Signed.{kept16}
-use Rattle.clauses.proofs.Laws.Places.{list-front, list-end}
-use Rattle.clauses.proofs.Laws.Writing.{Writing, writing_start, writing_more, writing-done}
+use Rattle.clauses.proofs.Laws.Writing.{Writing}
 use Rattle.clauses.proofs.writing.write_clause.Given as goal
 
 abbrev pub invariant-loop-place : goal.invariant-loop-place

@@ -1,19 +1,19 @@
-use mathlib.Core.Path.{◌≡◌, refl, ap}
+use mathlib.Core.Path.{refl, ap}
 use lib.IntN.{ℤ}
 use mathlib.Core.List.{[], ◌∷◌, ◌++◌}
-use Prim.Native.Nat.{◌-◌, ◌≤◌, ◌<◌}
+use Prim.Native.Nat.{◌-◌}
 use native.Mathlib.Omega.{arith}
 use borrow.Author.Rules.{rules}
 use lib.Bits.{bit_and, and_le_r}
-use lib.Count.{count_trailing_zeros, trailing_le}
-use lib.ListN.{length, length-set, length-append}
+use lib.Count.{trailing_le}
+use lib.ListN.{length-append}
 use mir.Syntax.{w16}
 use mir.Val.{to_z, of_z}
 use mir.Facts.{to_z-of_z}
 use Rattle.dqbf.specs.Literal.{pick}
 use Rattle.dqbf.proofs.Laws.Signed.{kept16}
 use Rattle.clauses.proofs.Laws.Clauses.{lowest-there, lowest-before, last-left}
-use Rattle.clauses.proofs.Laws.Writing.{Writing, writing_start, writing_more, writing-room, writing-done, written_as}
+use Rattle.clauses.proofs.Laws.Writing.{writing_start, writing_more, writing-room, writing-done, written_as}
 use Rattle.clauses.proofs.writing.write_part.Goals as goal
 
 pub overflow_cast-at : goal.overflow_cast-at

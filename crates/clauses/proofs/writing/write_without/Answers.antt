@@ -1,13 +1,11 @@
 -- `writing::write_without`: what is written and what is left make the clause without the literal at the place.
-use Prim.Native.Nat.{◌-◌, ◌≤◌}
 use native.Mathlib.Omega.{arith}
 use borrow.Author.Rules.{rules}
 use lib.IntN.{pos}
-use lib.ListN.{length, drop}
 use Rattle.dqbf.proofs.Laws.Signed.{kept16}
 use Rattle.clauses.specs.Places.{but_at}
 use Rattle.clauses.proofs.Laws.Places.{list-end, but-length, but-front, skipped-within}
-use Rattle.clauses.proofs.Laws.Writing.{Writing, writing_start, writing_more, writing-done}
+use Rattle.clauses.proofs.Laws.Writing.{writing_start, writing_more, writing-done}
 use Rattle.clauses.proofs.writing.write_without.Goals as goal
 
 pub loop-i-init : goal.loop-i-init

@@ -1,12 +1,7 @@
 use Prim.Native.Nat.{◌-◌, ◌≤◌}
-use native.Mathlib.Omega.{arith}
-use borrow.Author.Rules.{rules}
-use lib.IntN.{pos}
-use lib.ListN.{length, drop}
-use Rattle.dqbf.proofs.Laws.Signed.{kept16}
+use lib.ListN.{drop}
 use Rattle.clauses.specs.Places.{but_at}
-use Rattle.clauses.proofs.Laws.Places.{list-end, but-length, but-front, skipped-within}
-use Rattle.clauses.proofs.Laws.Writing.{Writing, writing_start, writing_more, writing-done}
+use Rattle.clauses.proofs.Laws.Writing.{Writing}
 use Rattle.clauses.proofs.writing.write_without.Given as goal
 
 abbrev pub invariant-loop-i : goal.invariant-loop-i

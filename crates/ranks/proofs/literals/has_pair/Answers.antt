@@ -1,9 +1,5 @@
-use mathlib.Core.Path.{◌≡◌, refl}
-use mathlib.Core.Bool.{◌||◌}
-use Prim.Native.Nat.{◌-◌, ◌≤◌}
+use mathlib.Core.Path.{refl}
 use native.Mathlib.Omega.{arith}
-use lib.ListN.{take, drop}
-use Rattle.ranks.specs.Ranks.{side_by_side}
 use Rattle.ranks.proofs.Laws.Ranks.{pair-more, pair-done}
 use Rattle.ranks.proofs.literals.has_pair.Goals as goal
 

@@ -1,10 +1,8 @@
-use mathlib.Core.Path.{◌≡◌, refl}
+use mathlib.Core.Path.{◌≡◌}
 use mathlib.Core.Bool.{◌||◌}
 use Prim.Native.Nat.{◌-◌, ◌≤◌}
-use native.Mathlib.Omega.{arith}
 use lib.ListN.{take, drop}
 use Rattle.ranks.specs.Ranks.{side_by_side}
-use Rattle.ranks.proofs.Laws.Ranks.{pair-more, pair-done}
 use Rattle.ranks.proofs.literals.has_pair.Given as goal
 
 abbrev pub invariant-loop-i : goal.invariant-loop-i

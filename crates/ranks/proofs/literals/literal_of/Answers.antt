@@ -1,4 +1,3 @@
-use borrow.Author.Rules.{rules}
 use Rattle.ranks.proofs.Laws.Ranks.{literal-plain, literal-minus-fits, literal-minus}
 use Rattle.ranks.proofs.literals.literal_of.Goals as goal
 

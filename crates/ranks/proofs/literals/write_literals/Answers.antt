@@ -1,9 +1,5 @@
-use mathlib.Core.Path.{◌≡◌, refl}
-use Prim.Native.Nat.{◌-◌, ◌≤◌}
+use mathlib.Core.Path.{refl}
 use native.Mathlib.Omega.{arith}
-use lib.ListN.{take, drop}
-use mathlib.Core.List.{◌++◌, map}
-use Rattle.ranks.specs.Ranks.{literal_of_rank}
 use Rattle.ranks.proofs.Laws.Ranks.{written-length, written-more, written-done}
 use Rattle.ranks.proofs.literals.write_literals.Goals as goal
 

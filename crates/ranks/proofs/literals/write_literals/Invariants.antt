@@ -1,10 +1,8 @@
-use mathlib.Core.Path.{◌≡◌, refl}
+use mathlib.Core.Path.{◌≡◌}
 use Prim.Native.Nat.{◌-◌, ◌≤◌}
-use native.Mathlib.Omega.{arith}
 use lib.ListN.{take, drop}
 use mathlib.Core.List.{◌++◌, map}
 use Rattle.ranks.specs.Ranks.{literal_of_rank}
-use Rattle.ranks.proofs.Laws.Ranks.{written-length, written-more, written-done}
 use Rattle.ranks.proofs.literals.write_literals.Given as goal
 
 abbrev pub invariant-loop-i : goal.invariant-loop-i

@@ -1,9 +1,7 @@
 use borrow.Author.Rules.{rules}
-use mathlib.Core.Path.{refl}
 use Rattle.records.specs.Record.{step_in}
 use mir.Facts.{to_z-of_z}
 use mir.Syntax.{w32}
-use borrow.Author.Rules.{sfits_of}
 use Rattle.rules.proofs.examine.examine.Goals as goal
 
 pub returns-in-Resolution : goal.returns-in-Resolution

@@ -1,6 +1,5 @@
-use borrow.Author.Rules.{rules}
-use mathlib.Core.Path.{refl, sym, ◌∙◌}
-use Rattle.steps.proofs.Laws.Calls.{not-false, run_short-is, run-formless, run-holding, run_long, run_on}
+use mathlib.Core.Path.{sym, ◌∙◌}
+use Rattle.steps.proofs.Laws.Calls.{run_short-is, run-formless, run-holding, run_long, run_on}
 use mathlib.Core.Bool.{not}
 use mathlib.Core.Path.{ap}
 use Rattle.steps.proofs.run.run.Goals as goal

@@ -1,13 +1,10 @@
 -- `run_records` meets its contract.
-use mathlib.Core.Path.{◌≡◌, refl, ◌∙◌}
-use Prim.Native.Nat.{◌≤◌, ◌-◌}
+use mathlib.Core.Path.{refl, ◌∙◌}
 use native.Mathlib.Omega.{arith}
 use borrow.Author.Rules.{rules}
-use lib.ListN.{length}
-use Rattle.tables.specs.Tables.{tables_of}
 use Rattle.additions.specs.Adding.{refused_by}
 use Rattle.steps.proofs.Laws.Decoded.{bytes-malformed, bytes-examined}
-use Rattle.steps.proofs.Laws.Runs.{Running, running-start, running-on, running-refused, run-ended}
+use Rattle.steps.proofs.Laws.Runs.{running-start, running-on, running-refused, run-ended}
 use Rattle.steps.proofs.run.run_records.Goals as goal
 
 pub loop-at-init : goal.loop-at-init

@@ -1,12 +1,8 @@
-use mathlib.Core.Path.{◌≡◌, refl, ◌∙◌}
+use mathlib.Core.Path.{◌≡◌}
 use Prim.Native.Nat.{◌≤◌, ◌-◌}
-use native.Mathlib.Omega.{arith}
-use borrow.Author.Rules.{rules}
 use lib.ListN.{length}
 use Rattle.tables.specs.Tables.{tables_of}
-use Rattle.additions.specs.Adding.{refused_by}
-use Rattle.steps.proofs.Laws.Decoded.{bytes-malformed, bytes-examined}
-use Rattle.steps.proofs.Laws.Runs.{Running, running-start, running-on, running-refused, run-ended}
+use Rattle.steps.proofs.Laws.Runs.{Running}
 use Rattle.steps.proofs.run.run_records.Given as goal
 
 abbrev pub invariant-loop-at : goal.invariant-loop-at

@@ -1,7 +1,6 @@
 -- `step` meets its contract.
-use borrow.Author.Rules.{rules}
-use mathlib.Core.Path.{refl, sym, ◌∙◌}
-use Rattle.steps.proofs.Laws.Calls.{not-false, step-short, step-formless, step-holding, step-examined}
+use mathlib.Core.Path.{sym, ◌∙◌}
+use Rattle.steps.proofs.Laws.Calls.{step-short, step-formless, step-holding, step-examined}
 use Rattle.steps.proofs.Laws.Decoded.{bytes-malformed, bytes-examined}
 use mathlib.Core.Bool.{not}
 use mathlib.Core.Path.{ap}

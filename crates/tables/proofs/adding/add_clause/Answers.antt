@@ -1,7 +1,6 @@
 -- `tables::adding::add_clause` meets its contract.
 use mathlib.Core.Path.{◌∙◌, ap}
 use native.Mathlib.Omega.{arith}
-use borrow.Author.Rules.{rules}
 use Rattle.tables.specs.Adding.{step_counted}
 use Rattle.tables.proofs.Laws.Adding.{steps-kept}
 use Rattle.tables.proofs.adding.add_clause.Goals as goal

@@ -1,7 +1,5 @@
 -- `tables::adding::add_fork` meets its contract.
-use mathlib.Core.Path.{◌∙◌}
 use native.Mathlib.Omega.{arith}
-use borrow.Author.Rules.{rules}
 use Rattle.sets.specs.Words.{words_each, as_set, as_sets}
 use Rattle.tables.proofs.Laws.Adding.{variables-kept, room_next, room-variable, fork-steps, fork-state, fork_ends, fork-entry}
 use Rattle.tables.proofs.adding.add_fork.Goals as goal

@@ -1,7 +1,6 @@
 -- `tables::adding::add_variable` meets its contract.
 use mathlib.Core.Path.{refl}
 use Rattle.tables.specs.Adding.{variable_added}
-use borrow.Author.Rules.{rules}
 use Rattle.tables.proofs.adding.add_variable.Goals as goal
 
 pub returns : goal.returns

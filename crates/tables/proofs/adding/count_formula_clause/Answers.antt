@@ -1,6 +1,5 @@
 -- `tables::adding::count_formula_clause` meets its contract.
 use mathlib.Core.Path.{refl}
-use borrow.Author.Rules.{rules}
 use Rattle.tables.specs.Adding.{formula_counted}
 use Rattle.tables.proofs.adding.count_formula_clause.Goals as goal
 

@@ -1,6 +1,5 @@
 -- `tables::adding::count_step` meets its contract.
 use mathlib.Core.Path.{refl}
-use borrow.Author.Rules.{rules}
 use Rattle.tables.specs.Adding.{step_counted}
 use Rattle.tables.proofs.adding.count_step.Goals as goal
 

@@ -1,6 +1,5 @@
 -- `tables::adding::end_clause` meets its contract.
 use mathlib.Core.Path.{refl}
-use borrow.Author.Rules.{rules}
 use Rattle.tables.specs.Adding.{clause_ended}
 use Rattle.tables.proofs.adding.end_clause.Goals as goal
 

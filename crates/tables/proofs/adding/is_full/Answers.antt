@@ -1,5 +1,4 @@
 -- `tables::adding::is_full` meets its contract.
-use borrow.Author.Rules.{rules}
 use borrow.Author.Tests.{lt-ltb, le-ltb}
 use Rattle.tables.specs.Adding.{full}
 use Rattle.tables.proofs.adding.is_full.Goals as goal

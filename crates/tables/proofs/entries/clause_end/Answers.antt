@@ -1,7 +1,4 @@
 -- `tables::entries::clause_end` meets its contract.
-use borrow.Author.Rules.{rules}
-use Prim.Native.Nat.{◌-◌}
-use native.Mathlib.Omega.{arith}
 use Rattle.tables.proofs.Laws.Entries.{entry-none, entry-some}
 use Rattle.tables.proofs.entries.clause_end.Goals as goal
 

@@ -1,5 +1,4 @@
 -- `tables::entries::kind_of` meets its contract.
-use borrow.Author.Rules.{rules}
 use Rattle.tables.proofs.Laws.Entries.{entry-none, entry-some, entry_past}
 use Rattle.tables.proofs.entries.kind_of.Goals as goal
 

@@ -1,6 +1,5 @@
 -- `tables::entries::set_of` meets its contract.
 use Rattle.tables.proofs.Laws.Lent.{set-none, set-some, set_past, set-place}
-use borrow.Author.Rules.{rules}
 use Rattle.tables.proofs.entries.set_of.Goals as goal
 
 pub returns-then-number-eq0 : goal.returns-then-number-eq0

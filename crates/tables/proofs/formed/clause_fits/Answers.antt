@@ -1,11 +1,9 @@
 -- `tables::formed::clause_fits` meets its contract.
 use mathlib.Core.Path.{◌≡◌, sym, ◌∙◌}
-use Prim.Native.Nat.{◌≤◌, ◌-◌}
 use lib.IntN.{pos, nat_abs}
-use lib.ListN.{length, get_or}
+use lib.ListN.{get_or}
 use Rattle.dqbf.proofs.Laws.Signed.{var-kept}
-use Rattle.tables.specs.WellFormed.{clause_fits}
-use Rattle.tables.proofs.Laws.Turns.{literals_left, clause-wide, clause-start, literals_end, literals-low, literals-none, literals-high, literals-pass}
+use Rattle.tables.proofs.Laws.Turns.{clause-wide, clause-start, literals_end, literals-low, literals-none, literals-high, literals-pass}
 use borrow.Author.Rules.{rules}
 use Rattle.tables.proofs.formed.clause_fits.Goals as goal
 

@@ -1,11 +1,8 @@
-use mathlib.Core.Path.{◌≡◌, sym, ◌∙◌}
+use mathlib.Core.Path.{◌≡◌}
 use Prim.Native.Nat.{◌≤◌, ◌-◌}
-use lib.IntN.{pos, nat_abs}
-use lib.ListN.{length, get_or}
-use Rattle.dqbf.proofs.Laws.Signed.{var-kept}
+use lib.ListN.{length}
 use Rattle.tables.specs.WellFormed.{clause_fits}
-use Rattle.tables.proofs.Laws.Turns.{literals_left, clause-wide, clause-start, literals_end, literals-low, literals-none, literals-high, literals-pass}
-use borrow.Author.Rules.{rules}
+use Rattle.tables.proofs.Laws.Turns.{literals_left}
 use Rattle.tables.proofs.formed.clause_fits.Given as goal
 
 abbrev pub invariant-loop-i : goal.invariant-loop-i

@@ -1,16 +1,8 @@
 -- `tables::formed::clauses_fit` meets its contract.
-use mathlib.Core.List.{[], ◌∷◌}
-use mathlib.Core.Path.{◌≡◌, sym, ◌∙◌}
-use Prim.Native.Nat.{◌≤◌, ◌-◌}
+use mathlib.Core.Path.{sym, ◌∙◌}
 use native.Mathlib.Omega.{arith}
 use borrow.Author.Rules.{rules}
-use borrow.Author.Tests.{not-true, not-false}
-use lib.Dec.{eqb}
-use lib.ListN.{length}
-use Rattle.dqbf.specs.Model.{empty_from}
-use Rattle.tables.specs.Tables.{cut}
-use Rattle.tables.specs.WellFormed.{every, ends_rise, clauses_fit}
-use Rattle.tables.proofs.Laws.Turns.{clauses_left, clauses-start, clauses-short, clauses-done, clauses-falls, clauses-over, clauses-ill, clauses-pass}
+use Rattle.tables.proofs.Laws.Turns.{clauses-start, clauses-short, clauses-done, clauses-falls, clauses-over, clauses-ill, clauses-pass}
 use Rattle.tables.proofs.formed.clauses_fit.Goals as goal
 
 pub loop-i-init : goal.loop-i-init

@@ -1,7 +1,6 @@
 -- `tables::formed::counts_fit` meets its contract.
 use mathlib.Core.List.{[], ◌∷◌}
 use mathlib.Core.Path.{sym}
-use borrow.Author.Rules.{rules}
 use borrow.Author.Tests.{lt-leb, le-leb}
 use Rattle.tables.specs.WellFormed.{within_limits, bound_in_use, clauses_add_up, counts_fit}
 use Rattle.tables.proofs.Laws.Tests.{every-fails, every-from, every-last}

@@ -1,7 +1,5 @@
 -- `tables::formed::first_refusal` meets its contract.
 use mathlib.Core.Path.{sym, ◌∙◌}
-use borrow.Author.Rules.{rules}
-use borrow.Author.Tests.{not-true, not-false}
 use Rattle.tables.proofs.Laws.Unusable.{number_short, number-ill, number-none}
 use Rattle.tables.proofs.formed.first_refusal.Goals as goal
 

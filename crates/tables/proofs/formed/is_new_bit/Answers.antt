@@ -1,7 +1,6 @@
 -- `tables::formed::is_new_bit` meets its contract.
 use mathlib.Core.Path.{sym}
 use Rattle.tables.proofs.Laws.Lent.{new-bit-wide, new-bit-told}
-use borrow.Author.Rules.{rules}
 use Rattle.tables.proofs.formed.is_new_bit.Goals as goal
 
 pub returns-then-size-ne1 : goal.returns-then-size-ne1

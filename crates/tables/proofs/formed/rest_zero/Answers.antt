@@ -2,8 +2,6 @@
 use mathlib.Core.List.{[], ◌∷◌}
 use mathlib.Core.Path.{sym, ◌∙◌}
 use native.Mathlib.Omega.{arith}
-use borrow.Author.Rules.{rules}
-use borrow.Author.Tests.{not-true, not-false}
 use Rattle.tables.specs.WellFormed.{rest_zero}
 use Rattle.tables.proofs.Laws.Formed.{long-is, counts-is}
 use Rattle.tables.proofs.Laws.Lent.{long-words, zeros-told}

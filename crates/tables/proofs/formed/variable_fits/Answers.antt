@@ -1,8 +1,6 @@
 -- `tables::formed::variable_fits` meets its contract.
 use mathlib.Core.Path.{sym, ◌∙◌}
-use borrow.Author.Tests.{not-true, not-false}
 use Rattle.tables.proofs.Laws.Turns.{variable-high, variable-misplaced, variable-undeclared, variable-universal, variable-other}
-use borrow.Author.Rules.{rules}
 use Rattle.tables.proofs.formed.variable_fits.Goals as goal
 
 pub returns-then-kind-gt-FORK : goal.returns-then-kind-gt-FORK

@@ -1,13 +1,9 @@
 -- `tables::formed::variables_fit` meets its contract.
-use mathlib.Core.Path.{◌≡◌, ap, sym, ◌∙◌}
-use Prim.Native.Nat.{◌≤◌, ◌-◌}
+use mathlib.Core.Path.{sym, ◌∙◌}
 use native.Mathlib.Omega.{arith}
-use borrow.Author.Tests.{not-true, not-false}
-use lib.ListN.{length}
 use Rattle.sets.specs.Words.{words_each, as_set, as_sets}
-use Rattle.tables.specs.WellFormed.{variables_fit}
 use Rattle.tables.proofs.Laws.Lent.{lowest-is}
-use Rattle.tables.proofs.Laws.Turns.{variables_left, variables-start, variables-miscounted, variables-filled, variables-universal, variables-other, variables-old, variables-ill}
+use Rattle.tables.proofs.Laws.Turns.{variables-start, variables-miscounted, variables-filled, variables-universal, variables-other, variables-old, variables-ill}
 use borrow.Author.Rules.{rules}
 use Rattle.tables.proofs.formed.variables_fit.Goals as goal
 

@@ -1,13 +1,9 @@
-use mathlib.Core.Path.{◌≡◌, ap, sym, ◌∙◌}
+use mathlib.Core.Path.{◌≡◌}
 use Prim.Native.Nat.{◌≤◌, ◌-◌}
-use native.Mathlib.Omega.{arith}
-use borrow.Author.Tests.{not-true, not-false}
 use lib.ListN.{length}
 use Rattle.sets.specs.Words.{words_each, as_set, as_sets}
 use Rattle.tables.specs.WellFormed.{variables_fit}
-use Rattle.tables.proofs.Laws.Lent.{lowest-is}
-use Rattle.tables.proofs.Laws.Turns.{variables_left, variables-start, variables-miscounted, variables-filled, variables-universal, variables-other, variables-old, variables-ill}
-use borrow.Author.Rules.{rules}
+use Rattle.tables.proofs.Laws.Turns.{variables_left}
 use Rattle.tables.proofs.formed.variables_fit.Given as goal
 
 abbrev pub invariant-loop-i : goal.invariant-loop-i

@@ -1,5 +1,4 @@
 -- `tables::zero::clear` meets its contract.
-use borrow.Author.Rules.{rules}
 use Rattle.tables.proofs.Laws.Formed.{long-is}
 use Rattle.tables.proofs.Laws.Lent.{long-words, cleared-sets, cleared-spare}
 use Rattle.tables.proofs.Laws.Zeros.{cleared-tables}

@@ -1,10 +1,7 @@
 use mathlib.Core.List.{◌++◌}
-use mathlib.Core.Path.{◌≡◌, refl}
+use mathlib.Core.Path.{◌≡◌}
 use Prim.Native.Nat.{◌≤◌, ◌-◌}
-use native.Mathlib.Omega.{arith}
 use lib.ListN.{length, drop, replicate}
-use Rattle.tables.proofs.Laws.Zeros.{cleared-next, cleared-all}
-use borrow.Author.Rules.{rules}
 use Rattle.tables.proofs.zero.clear_ends.Given as goal
 
 abbrev pub invariant-loop-i : goal.invariant-loop-i

@@ -1,9 +1,6 @@
 -- `tables::zero::clear_kinds` meets its contract.
-use mathlib.Core.List.{◌++◌}
-use mathlib.Core.Path.{◌≡◌, refl}
-use Prim.Native.Nat.{◌≤◌, ◌-◌}
+use mathlib.Core.Path.{refl}
 use native.Mathlib.Omega.{arith}
-use lib.ListN.{length, drop, replicate}
 use Rattle.tables.proofs.Laws.Zeros.{cleared-next, cleared-all}
 use borrow.Author.Rules.{rules}
 use Rattle.tables.proofs.zero.clear_kinds.Goals as goal

@@ -1,12 +1,8 @@
-use borrow.Author.Rules.{rules}
-use mathlib.Core.Path.{◌≡◌, refl, sym, ◌∙◌}
+use mathlib.Core.Path.{◌≡◌}
 use mathlib.Core.Bool.{◌&&◌}
 use Prim.Native.Nat.{◌≤◌, ◌-◌}
-use native.Mathlib.Omega.{arith}
 use lib.ListN.{length, drop}
 use Rattle.tables.specs.WellFormed.{all_of, is_zero}
-use Rattle.tables.proofs.Laws.Tests.{all-next, all_done}
-use Rattle.tables.proofs.Laws.Zeros.{zero-told}
 use Rattle.tables.proofs.zero.zero_ends.Given as goal
 
 abbrev pub invariant-loop-i : goal.invariant-loop-i

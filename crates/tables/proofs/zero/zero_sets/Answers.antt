@@ -1,10 +1,7 @@
 use borrow.Author.Rules.{rules}
-use mathlib.Core.Path.{◌≡◌, refl, sym, ◌∙◌}
-use mathlib.Core.Bool.{◌&&◌}
-use Prim.Native.Nat.{◌≤◌, ◌-◌}
+use mathlib.Core.Path.{refl, sym, ◌∙◌}
 use native.Mathlib.Omega.{arith}
-use lib.ListN.{length, drop}
-use Rattle.tables.specs.WellFormed.{all_of, is_zero}
+use Rattle.tables.specs.WellFormed.{is_zero}
 use Rattle.tables.proofs.Laws.Tests.{all-next, all_done}
 use Rattle.tables.proofs.Laws.Zeros.{zero-told}
 use Rattle.tables.proofs.zero.zero_sets.Goals as goal
