@@ -2,8 +2,11 @@
 use borrow.Author.Tests.{le-leb}
 use lib.IntN.{nat_abs}
 use mir.Facts.{to_z-of_z}
+use native.Mathlib.Omega.{arith}
+use Prim.Native.Nat.{◌≤◌}
+use Rattle.std.proofs.lemmas.Int.{ints}
 use Rattle.dqbf.specs.Literal.{literal_in}
-use Rattle.dqbf.proofs.Laws.Signed.{below-range, above-range, in-range, range-fits}
+use Rattle.dqbf.proofs.Laws.Signed.{below-range, above-range, range-fits}
 use Rattle.dqbf.proofs.literal.narrowed.Goals as goal
 
 pub returns-then-x-ltminus32767 : goal.returns-then-x-ltminus32767
@@ -19,5 +22,5 @@ unfolding literal_in
 returns c =
     let f = c.ranges.x in
     let x = c.args.x in
-    let within = in-range x (rw (to_z-of_z f) at c.if-x-ltminus32767.false) (rw (to_z-of_z f) at c.if-x-gt32767.false) in
+    let within : nat_abs x ≤ 32767 = omega (arith, ints) in
     rw (to_z-of_z f, to_z-of_z (range-fits x within), le-leb (nat_abs x) 32767 within)
