@@ -16,7 +16,7 @@ done
 ! grep -nE '\b48 \+|\+ 48\b' crates/*/src/*.rt | grep -v '^crates/lines/src/digits.rt:' ||
     fail "digits are made elsewhere"
 
-for file in $(grep -lE '\b(print|println|eprint|eprintln|write|writeln|format|format_args)!|\.(print|println|eprint|eprintln|writeln|write_fmt)\(|to_string\(|\b(Display|Debug|LowerHex|UpperHex|Binary|Octal|LowerExp|UpperExp)\b|\b(itoa|ryu)\b' crates/*/src/*.rt); do
+for file in $(grep -lE '\b(print|println|eprint|eprintln|write|writeln|format|format_args)!|\.(print|println|eprint|eprintln|writeln|write_fmt)\(|to_string\(|\bPrint::|\bdbg!|\b(Display|Debug|LowerHex|UpperHex|Binary|Octal|LowerExp|UpperExp)\b|\b(itoa|ryu)\b' crates/*/src/*.rt); do
     case $file in
     crates/printed/* | crates/*_test/*) ;;
     *) fail "$file prints numbers" ;;
