@@ -3,16 +3,15 @@
 // The calls of a C or C++ driver are those of the crate `driver`.
 #![tactic(auto)]
 
-pub use additions::{StepAnswer, Stepped};
 pub use dqbf::limits::{CLAUSE_LIMIT, LITERAL_LIMIT, RECORDS_LIMIT, TEXT_LIMIT, VARIABLE_LIMIT};
 pub use dqbf::refusal::Refusal;
-pub use dqdimacs::{LoadAnswer, Loaded, load};
-pub use formula_text::{TIDY_LIMIT, WriteAnswer, write_formula};
-pub use lines::line::{LINE_SIZE, Written};
-pub use questions::{LengthAnswer, VariableAnswer, clause_length, show, variable};
+pub use dqdimacs::{LoadRefusal, load};
+pub use formula_text::{TIDY_LIMIT, write_formula};
+pub use lines::line::LINE_SIZE;
+pub use questions::{VariableEntry, clause_length, show, variable};
 pub use sets::TABLE_WORDS;
 pub use steps::run::run;
 pub use steps::step::step;
-pub use steps::{Ran, RunAnswer};
-pub use tables::{ClauseNumber, State, StepNumber, VariableNumber};
+pub use steps::{BadStep, Outcome};
+pub use tables::{ClauseNumber, Lent, LentMut, State, StepNumber, VariableNumber};
 pub use verdict::judge::judge;

@@ -6,8 +6,8 @@ use Prim.Native.Nat.{ℕ, suc, ◌-◌, ◌^◌, ◌<◌, ◌≤◌}
 use native.Mathlib.Omega.{arith}
 use borrow.Author.Tests.{lt-leb, le-leb, leb-true}
 use lib.Dec.{leb, lit<}
-use lib.ListN.{length, get_or, replicate, get_or-eq_default}
-use Rattle.dqbf.specs.Limits.{clause_limit, literal_limit, variable_limit}
+use lib.ListN.{length, get_or, replicate, drop}
+use Rattle.dqbf.specs.Limits.{clause_limit, literal_limit}
 use Rattle.sets.specs.Words.{words_each, table_words, as_sets, table_of}
 use Rattle.sets.proofs.Laws.Sets.{table-back}
 use Rattle.sets.proofs.Laws.Tables.{spare-none}
@@ -16,9 +16,9 @@ use Rattle.tables.specs.WellFormed.{every, long}
 use Rattle.tables.proofs.Laws.Formed.{long-to}
 use Rattle.tables.proofs.Laws.Lent.{words_long}
 use Rattle.tables.proofs.Laws.Tests.{every-at}
-use Rattle.codec.specs.Bytes.{digits, entries, bytes_of, over}
+use Rattle.codec.specs.Bytes.{entries, over}
 use Rattle.codec.proofs.Laws.Bytes.{entries-length}
-use Rattle.codec.proofs.Laws.Turns.{literals-length}
+use Rattle.codec.proofs.Laws.Tables.{literals-length}
 use Rattle.buffers.specs.Buffers.{Buffers, state_whole, whole, tables_in}
 
 -- ---- sizes
@@ -66,24 +66,19 @@ lent-long b w =
 pub zero-short : (s : List ℕ) → length s < 16 → s ≡ cond (leb 16 (length s)) (over (replicate 16 0) s) s
 zero-short s h = rw (lt-leb 16 (length s) h)
 
-pub zero-whole : (s : List ℕ) → 16 ≤ length s → {z : List ℕ} → z ≡ over (bytes_of 2 (replicate 8 0)) s → z ≡ cond (leb 16 (length s)) (over (replicate 16 0) s) s
-unfolding bytes_of digits
-zero-whole s h e = rw (le-leb 16 (length s) h) e
+pub zero-whole : (s : List ℕ) → 16 ≤ length s → {z : List ℕ} → z ≡ replicate 16 0 → z ++ drop 16 s ≡ cond (leb 16 (length s)) (over (replicate 16 0) s) s
+unfolding over
+zero-whole s h e = rw (le-leb 16 (length s) h, e)
 
 -- ---- where a clause starts
 
-module _ (ends : List ℕ) (c : ℕ) where
-  pub start_first : c < 2 → 0 ≡ entry ends (c - 1)
-  unfolding entry
-  start_first h = let z : c - 1 ≡ 0 = omega arith in sym (ap (entry ends) z)
+pub start_first : (ends : List ℕ) (c : ℕ) → c < 2 → 0 ≡ entry ends (c - 1)
+unfolding entry
+start_first ends c h = let z : c - 1 ≡ 0 = omega arith in sym (ap (entry ends) z)
 
-  module _ (h : 2 ≤ c) where
-    pub start-at : get_or ends (c - 2) 0 ≡ entry ends (c - 1)
-    unfolding entry
-    start-at = let z : c - 1 ≡ suc (c - 2) = omega arith in sym (ap (entry ends) z)
-
-    pub start-past : length ends ≤ c - 2 → 0 ≡ entry ends (c - 1)
-    start-past k = sym (get_or-eq_default ends 0 k) ∙ start-at
+pub start-at : (ends : List ℕ) (c place : ℕ) → 2 ≤ c → place ≡ c - 2 → get_or ends place 0 ≡ entry ends (c - 1)
+unfolding entry
+start-at ends c place h e = let z : c - 1 ≡ suc place = omega arith in sym (ap (entry ends) z)
 
 -- ---- the words of a table of the stated size are those of its sets
 

@@ -2,21 +2,27 @@
 #![tactic(auto)]
 
 ghost use Rattle.std.specs.Prelude.{◌≡◌, cond, ◌*◌, ◌-◌, ◌≤◌, leb, length, replicate};
+ghost use Rattle.std.specs.Fn.{CalledAt};
 ghost use Rattle.sets.specs.Words.{words_each, table_words, as_sets, table_of};
 ghost use Rattle.codec.specs.Bytes.{entries, bytes_of, literals_in, over};
 ghost use Rattle.codec.specs.Bytes as Bytes;
-ghost use Rattle.buffers.specs.Buffers.{buffers_of, state_size, whole};
+ghost use Rattle.buffers.specs.Buffers.{buffers_of, state_size, whole, tables_in, state_in};
+ghost use Rattle.tables.specs.Lent.{tables_lent};
 ghost use Rattle.tables.specs.Tables.{entry};
+ghost use Rattle.tables.specs.declared.Lent.{Lent};
 
-use codec::table;
+use codec::{state, table};
+use dqbf::limits::{CLAUSE_LIMIT, LITERAL_LIMIT, VARIABLE_LIMIT};
+use sets::TABLE_WORDS;
+use tables::Lent;
 
-const LITERAL_BYTES: usize = 16384;
+const LITERAL_BYTES: usize = 2 * LITERAL_LIMIT;
 
-const END_BYTES: usize = 4096;
+const END_BYTES: usize = 2 * CLAUSE_LIMIT;
 
-const SET_BYTES: usize = 16384;
+const SET_BYTES: usize = 8 * TABLE_WORDS;
 
-const KIND_BYTES: usize = 512;
+const KIND_BYTES: usize = VARIABLE_LIMIT;
 
 const STATE_BYTES: usize = 16;
 
@@ -24,19 +30,11 @@ const STATE_BYTES: usize = 16;
 pub fn is_whole(literals: &[u8], ends: &[u8], sets: &[u8], kinds: &[u8], state: &[u8]) -> bool
     ensures { result ≡ whole (buffers_of literals.now ends.now sets.now kinds.now state.now) }
 {
-    if literals.len() < LITERAL_BYTES {
-        return false;
-    }
-    if ends.len() < END_BYTES {
-        return false;
-    }
-    if sets.len() < SET_BYTES {
-        return false;
-    }
-    if kinds.len() < KIND_BYTES {
-        return false;
-    }
-    STATE_BYTES <= state.len()
+    LITERAL_BYTES <= literals.len()
+        && END_BYTES <= ends.len()
+        && SET_BYTES <= sets.len()
+        && KIND_BYTES <= kinds.len()
+        && STATE_BYTES <= state.len()
 }
 
 // Three tables from their bytes.
@@ -54,9 +52,45 @@ pub fn read_tables(
         × (ends.new ≡ entries 2 (length ends.old) end_bytes.now)
         × (sets.new ≡ entries 8 (length sets.old) set_bytes.now) }
 {
-    table::read_literals(literals, literal_bytes);
-    table::read_ends(ends, end_bytes);
-    table::read_sets(sets, set_bytes);
+    table::read_table(literals, literal_bytes);
+    table::read_table(ends, end_bytes);
+    table::read_table(sets, set_bytes);
+}
+
+// Calls a function at the tables and the state in the buffers, which are decoded into locals. The kinds are lent as they are. The function is lent, so that it
+// is known what the call wrote.
+pub fn with_tables<R, F: FnMut(&Lent) -> R>(
+    literals: &[u8],
+    ends: &[u8],
+    sets: &[u8],
+    kinds: &[u8],
+    state: &[u8],
+    call: &mut F,
+) -> R
+    requires sizes { (16384 ≤ length literals.now) × (4096 ≤ length ends.now) × (16384 ≤ length sets.now) × (16 ≤ length state.now) }
+    requires callable { F.IsAlwaysCallable call.old }
+    ensures { (lent : Lent) × (tables_lent lent ≡ tables_in (buffers_of literals.now ends.now sets.now kinds.now state.now))
+        × (lent.state ≡ state_in (buffers_of literals.now ends.now sets.now kinds.now state.now))
+        × CalledAt F.FnMut call.old lent result call.new }
+{
+    let mut literal_table = [0i16; LITERAL_LIMIT];
+    let mut end_table = [0u16; CLAUSE_LIMIT];
+    let mut set_table = [0u64; TABLE_WORDS];
+    read_tables(
+        &mut literal_table,
+        &mut end_table,
+        &mut set_table,
+        literals,
+        ends,
+        sets,
+    );
+    call(&Lent {
+        literals: &literal_table,
+        ends: &end_table,
+        sets: &set_table,
+        kinds,
+        state: state::read_state(state),
+    })
 }
 
 // Three tables back into their bytes. The words of the sets are those of the sets that they hold.
@@ -74,9 +108,9 @@ pub fn write_tables(
         × (end_bytes.new ≡ over (bytes_of 2 ends.now) end_bytes.old)
         × (set_bytes.new ≡ over (bytes_of 8 (table_of words_each (as_sets words_each sets.now))) set_bytes.old) }
 {
-    table::write_literals(literal_bytes, literals);
-    table::write_ends(end_bytes, ends);
-    table::write_sets(set_bytes, sets);
+    table::write_table(literal_bytes, literals);
+    table::write_table(end_bytes, ends);
+    table::write_table(set_bytes, sets);
 }
 
 // Zeros over a state that is lent whole; a shorter one stays.
@@ -86,17 +120,15 @@ pub fn zero_state(state: &mut [u8])
     if state.len() < STATE_BYTES {
         return;
     }
-    let zeros = [0u16; 8];
-    table::write_ends(state, &zeros);
+    state[..STATE_BYTES].fill(0);
 }
 
 // Where a clause starts: the end of the one before it; 0 for the first, and where there is no such end.
 pub fn clause_start(ends: &[u16], clause: u32) -> u16
     ensures { result ≡ entry ends.now (clause - 1) }
 {
-    if clause < 2 {
+    let Some(place) = clause.checked_sub(2) else {
         return 0;
-    }
-    let place = (clause - 2) as usize;
-    if place < ends.len() { ends[place] } else { 0 }
+    };
+    ends.get(place as usize).copied().unwrap_or(0)
 }

@@ -4,16 +4,13 @@ use mathlib.Core.List.Memᴰ
 use mathlib.Core.List.{List, [], ◌∷◌, ◌++◌}
 use mathlib.Core.Option.{none, some}
 use Prim.Native.Nat.{ℕ}
-use native.Mathlib.Omega.{arith}
 use Rattle.dqbf.specs.Literal.{◌∈◌}
 use Rattle.dqbf.specs.Formula.{Formula}
 use Rattle.dqbf.specs.Meaning.{Refuted}
 use Rattle.dqbf.specs.Reading.{load, accepted}
 use Rattle.dqbf.specs.Run.{refuted, Call, Answer, ran}
 use Rattle.tables.specs.Tables.{Tables}
-use Rattle.dqdimacs.specs.Loading.{load_of}
-use Rattle.dqdimacs.specs.declared.LoadAnswer.{LoadAnswer}
-use Rattle.dqdimacs.specs.declared.LoadAnswer.TheVariants as LoadAnswer
+use Rattle.dqdimacs.specs.Loading.{LoadAnswer, load_of}
 use Rattle.steps.specs.Statements.Refutation.{Lent, next, answer, answers}
 use Rattle.calls.specs.Statements.Refutation.{loaded}
 use Rattle.calls.specs.Statements.Reloading.{AnyCall, load_call, later_call, Standing, text_if, next_of, Told, all_told, Reloading}
@@ -47,7 +44,7 @@ Founded x = (text : List ℕ) → some text ≡ x.text → Since x.lent text
 accepted-text : (a : LoadAnswer) (text text' : List ℕ) → some text' ≡ text_if a text → (a ≡ LoadAnswer.Accepted) × (text' ≡ text)
 unfolding text_if
 accepted-text LoadAnswer.Accepted text text' e = (refl, cc)
-accepted-text (LoadAnswer.Refused line number) text text' e = absurd (let z : ◌≡◌ {A = ℕ} 0 1 = cc in omega arith)
+accepted-text (LoadAnswer.Refused line number) text text' e = cc
 
 founded-next : (x : Standing) (c : AnyCall) → Founded x → Founded (next_of x c)
 unfolding next_of after
@@ -88,4 +85,4 @@ pub reloading : Reloading
 reloading x calls text steps clause q = among text steps clause (record { lent = x; text = none }) nothing calls q
   where
     nothing : Founded (record { lent = x; text = none })
-    nothing text' e = absurd (let z : ◌≡◌ {A = ℕ} 0 1 = cc in omega arith)
+    nothing text' e = cc

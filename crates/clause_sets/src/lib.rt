@@ -8,15 +8,12 @@ ghost use Rattle.sets.specs.Words.{words_each, as_set, as_sets};
 ghost use Rattle.clauses.specs.Places.{but_at};
 ghost use Rattle.clause_sets.specs.Sets.{set_in, clause_set_in, InUse, PartOf};
 
-use dqbf::literal;
-
 // The set of a literal's variable.
 fn set_of(literal: i16, sets: &[u64]) -> [u64; 4]
     requires { (0 < nat_abs literal) × (nat_abs literal ≤ length (as_sets words_each sets.now)) }
     ensures { as_set result ≡ set_in (as_sets words_each sets.now) (nat_abs literal) }
 {
-    let at = literal::variable_of(literal) as usize - 1;
-    sets::get(sets, at)
+    sets::get(sets, usize::from(literal.unsigned_abs()) - 1)
 }
 
 // The set of a clause: the union of its literals'.
@@ -24,14 +21,11 @@ fn clause_set(clause: &[i16], sets: &[u64]) -> [u64; 4]
     requires { InUse (as_sets words_each sets.now) clause.now }
     ensures { as_set result ≡ clause_set_in (as_sets words_each sets.now) clause.now }
 {
-    let n = clause.len();
-    let mut i = 0;
     let mut set = [0u64; 4];
-    while i < n {
-        let l = clause[i];
-        i += 1;
-        let united = sets::union(set, set_of(l, sets));
-        set = united;
+    for l in clause {
+        // by way of `more`: the prover does not cover a call's array that is laid in a variable of the loop
+        let more = sets::union(set, set_of(*l, sets));
+        set = more;
     }
     set
 }
@@ -41,13 +35,12 @@ pub fn set_without(clause: &[i16], place: usize, sets: &[u64]) -> [u64; 4]
     requires { InUse (as_sets words_each sets.now) clause.now × (place < length clause.now) }
     ensures { as_set result ≡ clause_set_in (as_sets words_each sets.now) (but_at place clause.now) }
 {
-    let next = place + 1;
     let front = clause_set(&clause[..place], sets);
-    sets::union(front, clause_set(&clause[next..], sets))
+    sets::union(front, clause_set(&clause[place + 1..], sets))
 }
 
 // How many literals a part of a clause has, and its set.
-#[derive(Drop)]
+#[derive(Clone, Copy, PartialEq, Eq)]
 pub struct Part {
     pub count: usize,
     pub set: [u64; 4],
@@ -58,18 +51,18 @@ pub fn measure_part(clause: &[i16], mask: u32, sets: &[u64]) -> Part
     requires { InUse (as_sets words_each sets.now) clause.now × (length clause.now ≤ width_limit) }
     ensures { PartOf (as_sets words_each sets.now) (Literal.pick mask clause.now) result }
 {
-    let n = clause.len();
     let mut count = 0;
-    let mut united = [0u64; 4];
+    let mut set = [0u64; 4];
     let mut rest = mask;
-    let mut at = u32::trailing_zeros(mask) as usize;
-    while at < n {
-        let l = clause[at];
-        let more = sets::union(united, set_of(l, sets));
-        united = more;
+    let mut at = mask.trailing_zeros() as usize;
+    // no range: the next place is the lowest bit that the mask has left
+    while at < clause.len() {
+        // by way of `more`, as in `clause_set`
+        let more = sets::union(set, set_of(clause[at], sets));
+        set = more;
         count += 1;
-        rest = rest & (rest - 1);
-        at = u32::trailing_zeros(rest) as usize;
+        rest &= rest - 1;
+        at = rest.trailing_zeros() as usize;
     }
-    Part { count, set: united }
+    Part { count, set }
 }

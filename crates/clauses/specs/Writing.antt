@@ -1,5 +1,5 @@
--- What a writer leaves (document 01, "A new clause is written into the literals behind the last used one"), and what a clause by value is.
--- Offers `Written`, `Copied`, `ByValue`.
+-- What a writer leaves (document 01, "A new clause is written into the literals behind the last used one").
+-- Offers `Written`, `Copied`.
 use Rattle.std.specs.Prelude.{◌≡◌, List, ◌++◌, ℕ, length, take, drop}
 
 -- A writer of ys over the front of xs left zs, and answered n.
@@ -11,8 +11,3 @@ pub record Written {A : Type 0} (ys xs zs : List A) (n : ℕ) : Type 0 where
 pub record Copied {A : Type 0} (ys zs : List A) (n : ℕ) : Type 0 where
   pub count : n ≡ length ys
   pub front : take n zs ≡ ys
-
--- ys by value: the first n entries of an array of the given size
-pub record ByValue {A : Type 0} (ys : List A) (size : ℕ) (array : List A) (n : ℕ) : Type 0 where
-  pub copied : Copied ys array n
-  pub whole : length array ≡ size

@@ -1,35 +1,17 @@
 // Writers of new clauses to the front of what they are lent, the tail of the literal table. Each answers how many literals it wrote.
-ghost use Rattle.std.specs.Prelude.{◌≡◌, cond, [], ◌∷◌, ◌++◌, ◌+◌, ◌<◌, ◌≤◌, ◌^◌, ltb, nat_abs, neg_ℤ, length};
+ghost use Rattle.std.specs.Prelude.{[], ◌∷◌, ◌++◌, ◌+◌, ◌<◌, ◌≤◌, nat_abs, neg_ℤ, length};
 ghost use Rattle.dqbf.specs.Limits.{width_limit};
 ghost use Rattle.dqbf.specs.Literal as Literal;
 ghost use Rattle.clauses.specs.Places.{but_at};
 ghost use Rattle.clauses.specs.Writing.{Written};
-
-use dqbf::literal;
 
 // The clause.
 pub fn write_clause(tail: &mut [i16], clause: &[i16]) -> usize
     requires { length clause.now ≤ length tail.old }
     ensures { Written clause.now tail.old tail.new result }
 {
-    let mut place = 0;
-    while place < clause.len() {
-        let l = clause[place];
-        tail[place] = l;
-        place += 1;
-    }
-    place
-}
-
-// The place of literal i of a clause without the one at a place.
-fn skipping(i: usize, place: usize) -> usize
-    requires { i + 1 < 2 ^ 64 }
-    ensures { result ≡ cond (ltb i place) i (i + 1) }
-{
-    if i < place {
-        return i;
-    }
-    i + 1
+    tail[..clause.len()].copy_from_slice(clause);
+    clause.len()
 }
 
 // The clause without the literal at a place, in one loop: where that literal stands is no branch, since the processor could not guess it.
@@ -38,14 +20,10 @@ pub fn write_without(tail: &mut [i16], clause: &[i16], place: usize) -> usize
     ensures { Written (but_at place clause.now) tail.old tail.new result }
 {
     let count = clause.len() - 1;
-    let mut i = 0;
-    while i < count {
-        let from = skipping(i, place);
-        let l = clause[from];
-        tail[i] = l;
-        i += 1;
+    for i in 0..count {
+        tail[i] = clause[i + usize::from(place <= i)];
     }
-    i
+    count
 }
 
 // A part of a fork: the literals that a mask picks, bit i the one at place i, and the new literal behind them. The mask loses its lowest bit each time.
@@ -53,16 +31,15 @@ fn write_part(tail: &mut [i16], clause: &[i16], mask: u32, new: i16) -> usize
     requires { (length clause.now ≤ width_limit) × (length (Literal.pick mask clause.now) < length tail.old) }
     ensures { Written (Literal.pick mask clause.now ++ (new ∷ [])) tail.old tail.new result }
 {
-    let n = clause.len();
     let mut width = 0;
     let mut rest = mask;
-    let mut at = u32::trailing_zeros(mask) as usize;
-    while at < n {
-        let l = clause[at];
-        tail[width] = l;
+    let mut at = mask.trailing_zeros() as usize;
+    // no range: the next place is the lowest bit that the mask has left
+    while at < clause.len() {
+        tail[width] = clause[at];
         width += 1;
-        rest = rest & (rest - 1);
-        at = u32::trailing_zeros(rest) as usize;
+        rest &= rest - 1;
+        at = rest.trailing_zeros() as usize;
     }
     tail[width] = new;
     width + 1
@@ -76,11 +53,5 @@ pub fn write_fork(tail: &mut [i16], clause: &[i16], left: u32, right: u32, varia
         tail.old tail.new result }
 {
     let count = write_part(tail, clause, left, variable);
-    count
-        + write_part(
-            &mut tail[count..],
-            clause,
-            right,
-            literal::negated(variable),
-        )
+    count + write_part(&mut tail[count..], clause, right, -variable)
 }

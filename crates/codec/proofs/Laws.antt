@@ -2,4 +2,4 @@ pub mod Bytes
 pub mod RoundTrip
 pub mod Signed
 pub mod State
-pub mod Turns
+pub mod Tables

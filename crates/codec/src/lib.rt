@@ -1,6 +1,5 @@
 // Tables and state in little-endian bytes (document 01, "The four lent tables"), for the driver.
 #![tactic(auto)]
 
-pub mod number;
 pub mod state;
 pub mod table;

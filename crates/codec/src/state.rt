@@ -12,16 +12,8 @@ pub fn read_state(bytes: &[u8]) -> State
     ensures { result ≡ state_in bytes.now }
 {
     let mut counts = [0u16; 8];
-    table::read_ends(&mut counts, bytes);
-    let bound = VariableNumber(counts[0] as u32);
-    let variables = VariableNumber(counts[1] as u32);
-    let universals = counts[2];
-    let formula = ClauseNumber(counts[3] as u32);
-    let clauses = ClauseNumber(counts[4] as u32);
-    let literals = counts[5];
-    let steps = StepNumber(counts[6] as u32);
-    let empty = ClauseNumber(counts[7] as u32);
-    State {
+    table::read_table(&mut counts, bytes);
+    let [
         bound,
         variables,
         universals,
@@ -30,6 +22,16 @@ pub fn read_state(bytes: &[u8]) -> State
         literals,
         steps,
         empty,
+    ] = counts;
+    State {
+        bound: VariableNumber(bound.into()),
+        variables: VariableNumber(variables.into()),
+        universals,
+        formula: ClauseNumber(formula.into()),
+        clauses: ClauseNumber(clauses.into()),
+        literals,
+        steps: StepNumber(steps.into()),
+        empty: ClauseNumber(empty.into()),
     }
 }
 
@@ -45,21 +47,15 @@ pub fn write_state(bytes: &mut [u8], state: State)
     requires { 16 ≤ length bytes.old }
     ensures { bytes.new ≡ over (state_bytes state) bytes.old }
 {
-    let bound = state.bound;
-    let variables = state.variables;
-    let formula = state.formula;
-    let clauses = state.clauses;
-    let steps = state.steps;
-    let empty = state.empty;
     let counts = [
-        low(bound.0),
-        low(variables.0),
+        low(state.bound.0),
+        low(state.variables.0),
         state.universals,
-        low(formula.0),
-        low(clauses.0),
+        low(state.formula.0),
+        low(state.clauses.0),
         state.literals,
-        low(steps.0),
-        low(empty.0),
+        low(state.steps.0),
+        low(state.empty.0),
     ];
-    table::write_ends(bytes, &counts);
+    table::write_table(bytes, &counts);
 }

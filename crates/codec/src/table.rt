@@ -1,96 +1,104 @@
 // Tables from bytes and into bytes.
-ghost use Rattle.std.specs.Prelude.{◌≡◌, ◌++◌, ◌+◌, ◌*◌, ◌≤◌, length, take, drop};
-ghost use Rattle.dqbf.specs.Bytes as Bytes;
-ghost use Rattle.codec.specs.Bytes.{digits, entries, bytes_of, literals_in, literal_bytes, over};
+ghost use Rattle.std.specs.Prelude.{◌≡◌, ◌*◌, ◌<◌, ◌≤◌, ℕ, List, length};
+ghost use Rattle.std.proofs.Common.{lit<, lit≤};
+ghost use Rattle.codec.specs.Tables.{table_in, table_bytes, number, signed_number, digits_2, digits_8, bit_digits, exact_2, exact_8, exact_bits};
+ghost use Rattle.codec.specs.Bytes.{over};
 
-use super::number;
+// An entry of N bytes, the lowest first.
+pub trait Entry<const N: usize>: Copy {
+    ghost decode: { List ℕ → Self };
 
-// Entry i of a table whose entries have `width` bytes.
-fn read_entry(bytes: &[u8], width: usize, i: usize) -> u64
-    requires { (width ≤ 8) × (width * i + width ≤ length bytes.now) }
-    ensures { result ≡ Bytes.number (take width (drop (width * i) bytes.now)) }
-{
-    let at = width * i;
-    let end = at + width;
-    number::read(&bytes[at..end])
+    ghost encode: { Self → List ℕ };
+
+    fn from_bytes(bytes: [u8; N]) -> Self
+        ensures { result ≡ decode bytes.entry };
+
+    fn to_bytes(self) -> [u8; N]
+        ensures { result ≡ encode self };
+
+    ghost exact: { (x : Self) → length (encode x) ≡ N };
+
+    ghost wide: { (0 < N) × (N ≤ 8) };
 }
 
-// The same written.
-fn write_entry(bytes: &mut [u8], width: usize, i: usize, entry: u64)
-    requires { width * i + width ≤ length bytes.old }
-    ensures { bytes.new ≡ take (width * i) bytes.old ++ (digits width entry ++ drop (width * i + width) bytes.old) }
-{
-    let at = width * i;
-    let end = at + width;
-    number::write(&mut bytes[at..end], entry);
-}
+impl Entry<2> for i16 {
+    ghost decode = { signed_number };
 
-// The literals that stand at the front of some bytes, as many as the table has entries.
-pub fn read_literals(literals: &mut [i16], bytes: &[u8])
-    requires { 2 * length literals.old ≤ length bytes.now }
-    ensures { literals.new ≡ literals_in (length literals.old) bytes.now }
-{
-    let mut i = 0;
-    while i < literals.len() {
-        let entry = read_entry(bytes, 2, i) as u16;
-        literals[i] = number::signed_of(entry);
-        i += 1;
+    ghost encode = { bit_digits };
+
+    ghost exact = { exact_bits };
+
+    ghost wide = { (lit< tt, lit≤ tt) };
+
+    fn from_bytes(bytes: [u8; 2]) -> i16
+        ensures { result ≡ signed_number bytes }
+    {
+        i16::from_le_bytes(bytes)
+    }
+
+    fn to_bytes(self) -> [u8; 2] {
+        self.to_le_bytes()
     }
 }
 
-pub fn read_ends(ends: &mut [u16], bytes: &[u8])
-    requires { 2 * length ends.old ≤ length bytes.now }
-    ensures { ends.new ≡ entries 2 (length ends.old) bytes.now }
-{
-    let mut i = 0;
-    while i < ends.len() {
-        ends[i] = read_entry(bytes, 2, i) as u16;
-        i += 1;
+impl Entry<2> for u16 {
+    ghost decode = { number };
+
+    ghost encode = { digits_2 };
+
+    ghost exact = { exact_2 };
+
+    ghost wide = { (lit< tt, lit≤ tt) };
+
+    fn from_bytes(bytes: [u8; 2]) -> u16
+        ensures { result ≡ number bytes }
+    {
+        u16::from_le_bytes(bytes)
+    }
+
+    fn to_bytes(self) -> [u8; 2] {
+        self.to_le_bytes()
     }
 }
 
-pub fn read_sets(sets: &mut [u64], bytes: &[u8])
-    requires { 8 * length sets.old ≤ length bytes.now }
-    ensures { sets.new ≡ entries 8 (length sets.old) bytes.now }
+impl Entry<8> for u64 {
+    ghost decode = { number };
+
+    ghost encode = { digits_8 };
+
+    ghost exact = { exact_8 };
+
+    ghost wide = { (lit< tt, lit≤ tt) };
+
+    fn from_bytes(bytes: [u8; 8]) -> u64
+        ensures { result ≡ number bytes }
+    {
+        u64::from_le_bytes(bytes)
+    }
+
+    fn to_bytes(self) -> [u8; 8] {
+        self.to_le_bytes()
+    }
+}
+
+// The entries that stand at the front of some bytes, as many as the table has.
+pub fn read_table<T: Entry<N>, const N: usize>(table: &mut [T], bytes: &[u8])
+    requires { N * length table.old ≤ length bytes.now }
+    ensures { table.new ≡ table_in T.decode N (length table.old) bytes.now }
 {
-    let mut i = 0;
-    while i < sets.len() {
-        sets[i] = read_entry(bytes, 8, i);
-        i += 1;
+    let (chunks, _) = bytes.as_chunks::<N>();
+    for (i, entry) in table.iter_mut().enumerate() {
+        *entry = T::from_bytes(chunks[i]);
     }
 }
 
 // The bytes of a table, at the front of a buffer.
-pub fn write_literals(bytes: &mut [u8], literals: &[i16])
-    requires { 2 * length literals.now ≤ length bytes.old }
-    ensures { bytes.new ≡ over (literal_bytes literals.now) bytes.old }
+pub fn write_table<T: Entry<N>, const N: usize>(bytes: &mut [u8], table: &[T])
+    requires { N * length table.now ≤ length bytes.old }
+    ensures { bytes.new ≡ over (table_bytes T.encode table.now) bytes.old }
 {
-    let mut i = 0;
-    while i < literals.len() {
-        let entry = number::bits_of(literals[i]);
-        write_entry(bytes, 2, i, entry as u64);
-        i += 1;
-    }
-}
-
-pub fn write_ends(bytes: &mut [u8], ends: &[u16])
-    requires { 2 * length ends.now ≤ length bytes.old }
-    ensures { bytes.new ≡ over (bytes_of 2 ends.now) bytes.old }
-{
-    let mut i = 0;
-    while i < ends.len() {
-        write_entry(bytes, 2, i, ends[i] as u64);
-        i += 1;
-    }
-}
-
-pub fn write_sets(bytes: &mut [u8], sets: &[u64])
-    requires { 8 * length sets.now ≤ length bytes.old }
-    ensures { bytes.new ≡ over (bytes_of 8 sets.now) bytes.old }
-{
-    let mut i = 0;
-    while i < sets.len() {
-        write_entry(bytes, 8, i, sets[i]);
-        i += 1;
+    for (i, entry) in table.iter().enumerate() {
+        let at = N * i;
+        bytes[at..at + N].copy_from_slice(&entry.to_bytes());
     }
 }

@@ -6,8 +6,7 @@ ghost use Rattle.dqbf.specs.Literal.{literal_in};
 pub fn variable_of(l: i16) -> u16
     ensures { result ≡ nat_abs l }
 {
-    let w = l as i32;
-    if w < 0 { (0 - w) as u16 } else { w as u16 }
+    l.unsigned_abs()
 }
 
 // The complement of a literal.
@@ -15,19 +14,16 @@ pub fn negated(l: i16) -> i16
     requires { nat_abs l < 32768 }
     ensures { result ≡ neg_ℤ l }
 {
-    0 - l
+    -l
 }
 
-// A record's signed 32-bit number as a literal; 0, which is no literal, where 16 bits hold none.
-// The range is tested before the number is narrowed.
+// A record's signed 32-bit number as a literal; 0 where 16 bits hold none. 0 stands in no clause, so that rules find it in none and need no case of its own.
 pub fn narrowed(x: i32) -> i16
     ensures { result ≡ literal_in x }
 {
-    if x < -32767 {
-        return 0;
+    if x.unsigned_abs() <= 32767 {
+        x as i16
+    } else {
+        0
     }
-    if x > 32767 {
-        return 0;
-    }
-    x as i16
 }

@@ -14,9 +14,8 @@ use Rattle.tables.specs.Tables.{Tables}
 use Rattle.tables.specs.Spread.{spread, state_of, blank}
 use Rattle.tables.specs.WellFormed.{long}
 use Rattle.tables.proofs.Laws.Spread.{model-back, formed-spread, long-spread, blank-valid, blank-state}
-use Rattle.dqdimacs.specs.Loading.{AfterLoad, load_answer, loaded_model, loaded_on, load_short, load_of}
+use Rattle.dqdimacs.specs.Loading.{Accepted, Refused, AfterLoad, load_answer, loaded_model, loaded_on, load_short, load_of}
 use Rattle.dqdimacs.specs.Statements.{AcceptedExactly, Holding, LoadFormed, Zeroed, RefusedZeroed}
-use Rattle.dqdimacs.specs.declared.LoadAnswer.TheVariants.{Accepted, Refused}
 use Rattle.prefix_lines.proofs.Laws.Rows.{row-length}
 
 module _ (t : Tables) where
@@ -27,8 +26,8 @@ module _ (t : Tables) where
   accepted-by : (b : Bool) (o : Reading.Loaded) → (load_by b o).answer ≡ Accepted → (b ≡ true) × ((φ : Formula) × (o ≡ accepted φ))
   unfolding load_short loaded_on load_answer
   accepted-by true (accepted φ) e = (refl, (φ, refl))
-  accepted-by true (refused l n) e = absurd (let z : ◌≡◌ {A = ℕ} 0 1 = cc in omega arith)
-  accepted-by false o e = absurd (let z : ◌≡◌ {A = ℕ} 0 1 = cc in omega arith)
+  accepted-by true (refused l n) e = cc
+  accepted-by false o e = cc
 
   accepts-by : (b : Bool) (o : Reading.Loaded) (φ : Formula) → b ≡ true → o ≡ accepted φ → (load_by b o).answer ≡ Accepted
   unfolding loaded_on load_answer
@@ -36,7 +35,7 @@ module _ (t : Tables) where
 
   refused-by : (o : Reading.Loaded) (line number : ℕ) → (loaded_on t o).answer ≡ Refused line number → loaded_model o ≡ blank
   unfolding loaded_on load_answer loaded_model
-  refused-by (accepted φ) line number e = absurd (let z : ◌≡◌ {A = ℕ} 0 1 = cc in omega arith)
+  refused-by (accepted φ) line number e = cc
   refused-by (refused l n) line number e = refl
 
   on-long : (text : List ℕ) → long t ≡ true → load_of t text ≡ loaded_on t (load text)

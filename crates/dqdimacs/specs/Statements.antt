@@ -6,8 +6,7 @@ use Rattle.dqbf.specs.Reading.{load, accepted}
 use Rattle.tables.specs.Tables.{Tables, model_in}
 use Rattle.tables.specs.Spread.{spread, blank, zero_state}
 use Rattle.tables.specs.WellFormed.{long, well_formed}
-use Rattle.dqdimacs.specs.Loading.{AfterLoad, load_of}
-use Rattle.dqdimacs.specs.declared.LoadAnswer.TheVariants.{Accepted, Refused}
+use Rattle.dqdimacs.specs.Loading.{Accepted, Refused, AfterLoad, load_of}
 
 -- A load is accepted exactly if no table is too short and the text says a formula.
 abbrev pub AcceptedExactly : Type 0

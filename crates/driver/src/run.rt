@@ -2,9 +2,11 @@
 ghost use Rattle.buffers.specs.Buffers.{buffers_of};
 ghost use Rattle.refusals.specs.Statements.{RunPromised};
 
+use dqbf::refusal::Refusal;
 use whole_calls::run;
 
 // Runs a list of records over the tables and the state in the driver's buffers.
+#[tactic(auto, using(std::proofs::lemmas::Bool::Decides::nat_tests), unfolding(exports::specs::Calls::run_bytes, exports::specs::Calls::run_short, buffers::specs::Buffers::whole, buffers::specs::Buffers::state_whole, tables::specs::WellFormed::every))]
 #[unsafe(no_mangle)]
 pub extern "C" fn kefthrun_run(
     records: &[u8],
@@ -21,7 +23,7 @@ pub extern "C" fn kefthrun_run(
         }) }
 {
     if !buffers::is_whole(literals, ends, sets, kinds, state) {
-        return results::pack(results::BAD, 0, results::TABLE_TOO_SHORT, 0);
+        return results::of_run(Err(Refusal::TableTooShort.into()));
     }
     run::run_whole(records, literals, ends, sets, kinds, state)
 }

@@ -3,12 +3,11 @@ ghost use Rattle.std.specs.Prelude.{◌≡◌};
 ghost use Rattle.buffers.specs.Buffers.{buffers_of};
 ghost use Rattle.exports.specs.Calls.{show_bytes};
 
-use codec::state as state_codec;
-use dqbf::limits::{CLAUSE_LIMIT, LITERAL_LIMIT};
-use sets::TABLE_WORDS;
-use tables::ClauseNumber;
+use dqbf::refusal::Refusal;
+use tables::{ClauseNumber, Lent};
 
 // Where a clause stands in the literals; the empty stretch at the start for an unknown number, short or ill-formed tables.
+#[tactic(auto, using(std::proofs::lemmas::Bool::Decides::nat_tests), unfolding(exports::specs::Calls::show_bytes, results::specs::Results::show_result, results::specs::Results::stretch_result, buffers::specs::Buffers::whole, buffers::specs::Buffers::state_whole, tables::specs::WellFormed::every))]
 #[unsafe(no_mangle)]
 pub extern "C" fn kefthrun_show(
     literals: &[u8],
@@ -21,29 +20,14 @@ pub extern "C" fn kefthrun_show(
     ensures { result ≡ show_bytes (buffers_of literals.now ends.now sets.now kinds.now state.now) clause }
 {
     if !buffers::is_whole(literals, ends, sets, kinds, state) {
-        return results::pack(results::ANSWERED, 0, 0, 0);
+        return results::of_show(0, Err(Refusal::TableTooShort));
     }
-    let mut literal_table = [0i16; LITERAL_LIMIT];
-    let mut end_table = [0u16; CLAUSE_LIMIT];
-    let mut set_table = [0u64; TABLE_WORDS];
-    buffers::read_tables(
-        &mut literal_table,
-        &mut end_table,
-        &mut set_table,
-        literals,
-        ends,
-        sets,
-    );
-    let held = state_codec::read_state(state);
-    let number = ClauseNumber(clause);
-    let answer = questions::clause_length(
-        &literal_table,
-        &end_table,
-        &set_table,
-        kinds,
-        held,
-        number,
-    );
-    let start = buffers::clause_start(&end_table, clause);
-    results::of_show(start, answer)
+    let mut ask = |tables: &Lent| {
+        let start = buffers::clause_start(tables.ends, clause);
+        results::of_show(
+            start,
+            questions::clause_length(tables, ClauseNumber(clause)),
+        )
+    };
+    buffers::with_tables(literals, ends, sets, kinds, state, &mut ask)
 }

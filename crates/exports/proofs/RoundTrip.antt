@@ -23,7 +23,7 @@ use Rattle.codec.specs.Bytes.{entries, bytes_of, literals_in, literal_bytes, ove
 use Rattle.codec.specs.State.{state_bytes}
 use Rattle.codec.proofs.Laws.Bytes.{entries-length, entries_fit, bytes-length, over-length}
 use Rattle.codec.proofs.Laws.State.{state-length, state-back}
-use Rattle.codec.proofs.Laws.Turns.{literals-length}
+use Rattle.codec.proofs.Laws.Tables.{literals-length}
 use Rattle.codec.proofs.Laws.RoundTrip.{literal-bytes-length, table-back, table_same, literals-back, literals-same, state-same}
 use Rattle.buffers.specs.Buffers.{Buffers, whole, tables_in, state_in, written}
 use Rattle.exports.specs.Statements.RoundTrip.{SameBytes, ReadBack}

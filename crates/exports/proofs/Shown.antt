@@ -18,11 +18,11 @@ use Rattle.tables.specs.declared.State.{State}
 use Rattle.tables.specs.Tables.{Tables, stretch, entry, model_in}
 use Rattle.tables.specs.WellFormed.{long, well_formed}
 use Rattle.tables.specs.Unusable.{unless_refused}
-use Rattle.tables.proofs.Laws.Unusable.{usable, unusable-ill, number-none}
+use Rattle.tables.proofs.Laws.Unusable.{usable, unusable-ill}
 use Rattle.tables.proofs.Laws.Entries.{unknown-told, clause-at, range-rises, range-ends, range_length}
 use Rattle.questions.specs.Answers.{length_answer, shown_start, shown_clause}
 use Rattle.questions.proofs.Laws.Outcomes.{clause-zero, clause-past}
-use Rattle.codec.proofs.Laws.Turns.{literals-length}
+use Rattle.codec.proofs.Laws.Tables.{literals-length}
 use Rattle.buffers.specs.Buffers.{Buffers, whole, tables_in, state_in}
 use Rattle.results.specs.Results.{field, clause_result, show_result, stretch_result}
 use Rattle.exports.specs.Calls.{show_bytes, clause_bytes}
@@ -75,8 +75,8 @@ module _ (t : Tables) (s : State) (lent : long t ≡ true) (small : length t.lit
           stretch-tells start (clause_at (model_in t s) c) starts shown (rw total (sym (clause-at t s lent formed c some known))) (rw total ends)
 
     formed-tells : Dec (0 < c) → Dec (s.clauses.0 < c) → Tells t s c result
-    formed-tells (no e) d = unknown-tells (clause-zero t s c (number-none t s lent formed) refl (omega arith))
-    formed-tells (yes e) (yes p) = unknown-tells (clause-past t s c (number-none t s lent formed) refl p)
+    formed-tells (no e) d = unknown-tells (clause-zero t s c (sym (usable t s lent formed)) (omega arith))
+    formed-tells (yes e) (yes p) = unknown-tells (clause-past t s c (sym (usable t s lent formed)) p)
     formed-tells (yes e) (no p) = known_tells (λ z. omega arith) (omega arith)
 
   ill-tells : well_formed t s ≡ false → Tells t s c result

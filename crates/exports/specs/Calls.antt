@@ -16,7 +16,7 @@ use Rattle.dqbf.specs.Run.{bad}
 use Rattle.dqbf.specs.Questions.{no_clause, no_variable}
 use Rattle.questions.specs.Answers.{length_answer, variable_answer, shown_start, shown_clause}
 use Rattle.dqdimacs.specs.Loading.{AfterLoad, load_of}
-use Rattle.dqdimacs.specs.declared.LoadAnswer.TheVariants as Load
+use Rattle.dqdimacs.specs.Loading as Load
 use Rattle.steps.specs.Steps.{AfterRun, run_of}
 use Rattle.formula_text.specs.Writing.{no_text, AfterWrite, write_of}
 use Rattle.codec.specs.Bytes.{Bytes, over}

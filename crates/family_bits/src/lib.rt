@@ -9,24 +9,16 @@ ghost use Rattle.family_bits.specs.Left.{word_bits, is_left, Marks, Narrowed};
 fn met(ones: usize, zeros: usize, number: usize) -> bool
     ensures { result ≡ Left.met ones zeros number }
 {
-    if ones & number != 0 {
-        return true;
-    }
-    zeros & number != zeros
+    ones & number != 0 || zeros & number != zeros
 }
 
 // The numbers below 64 that meet the masks, as bits.
 fn low_word(ones: usize, zeros: usize) -> u64
     ensures { Marks result (Left.met ones zeros) }
 {
-    let mut word: u64 = 0;
-    let mut number: usize = 64;
-    while number > 0 {
-        number -= 1;
-        word = 2 * word;
-        if met(ones, zeros, number) {
-            word += 1;
-        }
+    let mut word = 0;
+    for number in (0..64).rev() {
+        word = 2 * word + u64::from(met(ones, zeros, number));
     }
     word
 }
@@ -36,15 +28,9 @@ pub fn keep(left: &mut [u64], ones: usize, zeros: usize)
     ensures { Narrowed left.old left.new (Left.met ones zeros) }
 {
     let low = low_word(ones % 64, zeros % 64);
-    let high_ones = ones / 64;
-    let high_zeros = zeros / 64;
-    let mut i = 0;
-    while i < left.len() {
-        let word = left[i];
-        let place = i;
-        i += 1;
-        if !met(high_ones, high_zeros, place) {
-            left[place] = word & low;
+    for (place, word) in left.iter_mut().enumerate() {
+        if !met(ones / 64, zeros / 64, place) {
+            *word &= low;
         }
     }
 }
@@ -54,6 +40,5 @@ pub fn is_left(left: &[u64], family: usize) -> bool
     requires { family < word_bits * length left.now }
     ensures { result ≡ is_left left.now family }
 {
-    let word = left[family / 64];
-    (word >> ((family % 64) as u32)) % 2 == 1
+    (left[family / 64] >> (family % 64)) % 2 == 1
 }

@@ -12,6 +12,7 @@ pub fn read_whole(file: &mut impl Read, bytes: &mut [u8]) -> usize
     ensures { result ≤ length bytes.new }
 {
     let mut done = 0;
+    // into lent bytes, without a heap: the next read begins where the last one ended
     while done < bytes.len() {
         match file.read(&mut bytes[done..]) {
             Ok(0) => return done,

@@ -8,13 +8,9 @@ use forms::form::Shape;
 use std::io;
 use std::io::Read;
 
-fn write_numbers(rt: &impl Print, numbers: &[u32], count: usize) -> io::Result<()>
-    requires { count ≤ length numbers.now }
-{
-    let mut i = 0;
-    while i < count {
-        printed::number(rt, numbers[i])?;
-        i += 1;
+fn write_numbers(rt: &impl Print, numbers: &[u32]) -> io::Result<()> {
+    for &number in numbers {
+        printed::number(rt, number)?;
     }
     Ok(())
 }
@@ -28,47 +24,38 @@ fn write_rank(rt: &impl Print, rank: u32) -> io::Result<()> {
     printed::literal(rt, ranks::literals::literal_of(rank))
 }
 
-fn write_ranks(rt: &impl Print, ranks: &[u32], count: usize) -> io::Result<()>
-    requires { count ≤ length ranks.now }
-{
-    let mut i = 0;
-    while i < count {
-        write_rank(rt, ranks[i])?;
-        i += 1;
+fn write_ranks(rt: &impl Print, ranks: &[u32]) -> io::Result<()> {
+    for &rank in ranks {
+        write_rank(rt, rank)?;
     }
     Ok(())
 }
 
 // The different variables of a line in ascending order, if they are at most 64.
-fn write_universals(rt: &impl Print, numbers: &[u32], count: usize) -> io::Result<()>
-    requires { count ≤ length numbers.now }
-{
+fn write_universals(rt: &impl Print, numbers: &[u32]) -> io::Result<()> {
     let mut sorted = [0u32; 65];
-    let used = ranks::order::insert_all(numbers, count, &mut sorted, 0, 64);
-    if 64 < used {
+    let Some(used) = ranks::order::insert_all(numbers, &mut sorted, 0, 64) else {
         return rt.write_all(b" over 64");
-    }
+    };
     rt.write_all(b" :")?;
-    write_numbers(rt, &sorted, used)
+    write_numbers(rt, &sorted[..used])
 }
 
 // The clause as it is kept, if it has at most 32 literals, and whether it has complementary ones.
-fn write_clause(rt: &impl Print, numbers: &[u32], count: usize) -> io::Result<()>
-    requires { count ≤ length numbers.now }
-{
+fn write_clause(rt: &impl Print, numbers: &[u32]) -> io::Result<()> {
     let mut sorted = [0u32; 33];
-    let used = ranks::order::insert_all(numbers, count, &mut sorted, 0, 32);
-    if 32 < used {
+    let Some(used) = ranks::order::insert_all(numbers, &mut sorted, 0, 32) else {
         return rt.write_all(b" over 32");
-    }
+    };
     rt.write_all(b" :")?;
-    write_ranks(rt, &sorted, used)?;
-    if ranks::literals::has_pair(&sorted, used) {
+    write_ranks(rt, &sorted[..used])?;
+    if ranks::literals::has_pair(&sorted[..used]) {
         rt.write_all(b" complementary")?;
     }
     Ok(())
 }
 
+#[tactic(auto, unfolding(crate::specs::Counted::count_of))]
 fn write_shape(rt: &impl Print, shape: Shape, numbers: &[u32]) -> io::Result<()>
     requires { Counted shape (length numbers.now) }
 {
@@ -81,23 +68,22 @@ fn write_shape(rt: &impl Print, shape: Shape, numbers: &[u32]) -> io::Result<()>
         }
         Shape::Universals(n) => {
             rt.write_all(b"universals")?;
-            write_numbers(rt, numbers, n)?;
-            write_universals(rt, numbers, n)?;
+            write_numbers(rt, &numbers[..n])?;
+            write_universals(rt, &numbers[..n])?;
         }
         Shape::Existentials(n) => {
             rt.write_all(b"existentials")?;
-            write_numbers(rt, numbers, n)?;
+            write_numbers(rt, &numbers[..n])?;
         }
         Shape::Dependent(n) => {
             rt.write_all(b"dependent")?;
-            write_numbers(rt, numbers, n)?;
+            write_numbers(rt, &numbers[..n])?;
         }
         Shape::Clause(n) => {
             rt.write_all(b"clause")?;
-            write_ranks(rt, numbers, n)?;
-            write_clause(rt, numbers, n)?;
+            write_ranks(rt, &numbers[..n])?;
+            write_clause(rt, &numbers[..n])?;
         }
-        Shape::Malformed => rt.write_all(b"malformed")?,
     }
     println!(rt)
 }
@@ -106,13 +92,16 @@ fn write_lines(rt: &impl Print, text: &[u8], numbers: &mut [u32]) -> io::Result<
     requires { length text.now ≤ 2 * length numbers.old }
 {
     let mut at = 0;
+    // no range: the next line begins where this one ends
     while at < text.len() {
         let end = at + tokens::text::line_length(&text[at..]);
         if end == text.len() {
             return rt.println("no line feed");
         }
-        let shape = forms::form::form(&text[at..end], numbers);
-        write_shape(rt, shape, numbers)?;
+        match forms::form::form(&text[at..end], numbers) {
+            Some(shape) => write_shape(rt, shape, numbers)?,
+            None => rt.println("malformed")?,
+        }
         at = end + 1;
     }
     Ok(())
@@ -123,6 +112,7 @@ fn read_full(input: &mut impl Read, bytes: &mut [u8]) -> usize
     ensures { result ≤ length bytes.new }
 {
     let mut done = 0;
+    // into lent bytes, without a heap: the next read begins where the last one ended
     while done < bytes.len() {
         match input.read(&mut bytes[done..]) {
             Ok(0) | Err(_) => return done,

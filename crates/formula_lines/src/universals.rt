@@ -1,42 +1,34 @@
 // The universals, listed once. `kinds` has those of the variables 1 to V, `sets` the words of their sets, `names` are universals.
-ghost use Rattle.std.specs.Prelude.{◌≡◌, ◌≤◌, length, take};
+ghost use Rattle.std.specs.Prelude.{◌≡◌, ◌≤◌, length, find};
 ghost use Rattle.dqbf.specs.Limits.{variable_limit};
 ghost use Rattle.dqbf.specs.Model.{universals_in};
 ghost use Rattle.sets.specs.Words.{words_each, as_set, as_sets};
-ghost use Rattle.formula_lines.specs.Working.{universal_names, universal_with};
+ghost use Rattle.formula_lines.specs.Working.{universal_names, is_with};
 
 use tables::{VariableNumber, entries, kind as kinds_of};
 
-// Lists the universals, ascending; answers how many there are.
-pub fn list_universals(names: &mut [u32], kinds: &[u8]) -> usize
+// Lists the universals, ascending, in the memory that is lent.
+pub fn list_universals<'a>(names: &'a mut [u32], kinds: &[u8]) -> &'a [u32]
     requires { (universals_in kinds.now ≤ length names.old) × (length kinds.now ≤ variable_limit) }
-    ensures { (result ≤ length names.new) × (take result names.new ≡ universal_names kinds.now) }
+    ensures { result.now ≡ universal_names kinds.now }
 {
     let mut count = 0;
-    let mut i = 0;
-    while i < kinds.len() {
-        let kind = kinds[i];
-        i += 1;
+    for (i, &kind) in kinds.iter().enumerate() {
         if kind == kinds_of::UNIVERSAL {
-            names[count] = i as u32;
+            names[count] = i as u32 + 1;
             count += 1;
         }
     }
-    count
+    &names[..count]
 }
 
-// The one of the universals that has a set; 0: none has.
-pub fn universal_with(names: &[u32], sets: &[u64], set: [u64; 4]) -> u32
-    ensures { result ≡ universal_with names.now (as_sets words_each sets.now) (as_set set) }
+// The one of the universals that has a set.
+#[tactic(auto, unfolding(crate::specs::Working::is_with))]
+pub fn universal_with(names: &[u32], sets: &[u64], set: [u64; 4]) -> Option<u32>
+    ensures { result ≡ find (is_with (as_sets words_each sets.now) (as_set set)) names.now }
 {
-    let mut i = 0;
-    while i < names.len() {
-        let variable = VariableNumber(names[i]);
-        let own = entries::set_of(sets, variable);
-        if sets::same(own, set) {
-            return variable.0;
-        }
-        i += 1;
-    }
-    0
+    names.iter().copied().find(|variable| sets::same(
+        entries::set_of(sets, VariableNumber(*variable)),
+        set,
+    ))
 }

@@ -6,22 +6,21 @@
 --     in_front                   a text at the front of an output
 --     AfterWrite, write_of       the outcome
 --     tidy_limit                 an output of so many bytes is never too short
-use Rattle.std.specs.Prelude.{List, [], ◌∷◌, ◌++◌, ℕ, ltb, length, drop}
-use Rattle.dqbf.specs.Refusal.{Refusal, refusal, Test, ◌when◌, first}
+use Rattle.std.specs.Prelude.{List, [], ◌∷◌, ◌++◌, Result, Ok, Err, ℕ, ltb, length, drop}
+use Rattle.dqbf.specs.Refusal.{Refusal, refusal, refusal_told, Test, ◌when◌, first}
 use Rattle.tables.specs.declared.State.{State}
 use Rattle.tables.specs.Tables.{Tables, model_in}
 use Rattle.tables.specs.Unusable.{table_tests, unless_refused}
 use Rattle.dqbf.specs.Spelled.{spelled}
-use Rattle.formula_text.specs.declared.WriteAnswer.{WriteAnswer}
-use Rattle.formula_text.specs.declared.WriteAnswer.TheVariants.{Length, Refused}
+use Rattle.dqbf.specs.declared.refusal.Refusal as Code
 
 pub data TextAnswer : Type 0 where
   text_length : ℕ → TextAnswer
   no_text : Refusal → TextAnswer
 
-unfoldable pub write_told : WriteAnswer → TextAnswer
-write_told (Length n) = text_length n
-write_told (Refused number) = no_text (refusal number)
+abbrev pub write_told : Result ℕ Code.Refusal → TextAnswer
+write_told (Ok n) = text_length n
+write_told (Err r) = no_text (refusal_told r)
 
 unfoldable pub write_tests : Tables → State → List ℕ → List Test
 write_tests t s out = table_tests t s ++ ((refusal 30 when ltb (length out) (length (spelled (model_in t s)))) ∷ [])

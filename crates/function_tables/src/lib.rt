@@ -17,11 +17,9 @@ pub fn small_sets(out: &mut [u8], sets: &[u64])
     requires { (length out.old ≡ length (as_sets words_each sets.now)) × AllSmall (as_sets words_each sets.now) }
     ensures { out.new ≡ as_sets words_each sets.now }
 {
-    let mut i = 0;
-    while i < out.len() {
+    for (i, small) in out.iter_mut().enumerate() {
         let words = sets::get(sets, i);
-        out[i] = words[0] as u8;
-        i += 1;
+        *small = words[0] as u8;
     }
 }
 
@@ -30,10 +28,8 @@ pub fn row(places: u32, set: u32, setting: u32) -> u32
     requires { places ≤ small_universals }
     ensures { (result ≡ Deciding.row places set setting) × (result < 2 ^ places) }
 {
-    let mut row: u32 = 0;
-    let mut place = places;
-    while place > 0 {
-        place -= 1;
+    let mut row = 0;
+    for place in (0..places).rev() {
         if (set >> place) % 2 == 1 {
             row = (setting >> place) % 2 + 2 * row;
         }
@@ -49,7 +45,7 @@ fn table_bits(kind: u8, set: u8) -> u32
     if kind != kind::EXISTENTIAL {
         return 0;
     }
-    1u32 << u64::count_ones(set as u64)
+    1u32 << set.count_ones()
 }
 
 // Where the table of each variable starts, and how many bits all of them have.
@@ -57,12 +53,10 @@ pub fn lay_out(offsets: &mut [u16], kinds: &[u8], sets: &[u8]) -> u32
     requires { SmallSets kinds.now sets.now × (length kinds.now ≤ length offsets.old) }
     ensures { (result ≡ total_bits (declarations kinds.now sets.now)) × LaidOut (declarations kinds.now sets.now) offsets.new }
 {
-    let mut total: u32 = 0;
-    let mut i = 0;
-    while i < kinds.len() {
+    let mut total = 0;
+    for i in 0..kinds.len() {
         offsets[i] = total as u16;
-        total = total + table_bits(kinds[i], sets[i]);
-        i += 1;
+        total += table_bits(kinds[i], sets[i]);
     }
     total
 }

@@ -2,28 +2,23 @@
 #![tactic(auto)]
 
 use api::{
-    CLAUSE_LIMIT, LINE_SIZE, LITERAL_LIMIT, RECORDS_LIMIT, TABLE_WORDS, TEXT_LIMIT, VARIABLE_LIMIT,
-    Written,
+    CLAUSE_LIMIT, LINE_SIZE, LITERAL_LIMIT, LentMut, RECORDS_LIMIT, State, TABLE_WORDS, TEXT_LIMIT,
+    VARIABLE_LIMIT,
 };
 use std::io;
 
 // The line of a formula and a list of steps, printed.
 fn print_line(rt: &impl Print, text: &[u8], records: &[u8]) -> io::Result<()> {
-    let mut literals = [0i16; LITERAL_LIMIT];
-    let mut ends = [0u16; CLAUSE_LIMIT];
-    let mut sets = [0u64; TABLE_WORDS];
-    let mut kinds = [0u8; VARIABLE_LIMIT];
+    let mut tables = LentMut {
+        literals: &mut [0; LITERAL_LIMIT],
+        ends: &mut [0; CLAUSE_LIMIT],
+        sets: &mut [0; TABLE_WORDS],
+        kinds: &mut [0; VARIABLE_LIMIT],
+        state: State::default(),
+    };
     let mut out = [0u8; LINE_SIZE];
-    let written = api::judge(
-        text,
-        records,
-        &mut literals,
-        &mut ends,
-        &mut sets,
-        &mut kinds,
-        &mut out,
-    );
-    if let Written::Bytes(count) = written {
+    let written = api::judge(text, records, &mut tables, &mut out);
+    if let Some(count) = written {
         rt.write_all(&out[..count])?;
     }
     Ok(())

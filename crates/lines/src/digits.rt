@@ -19,18 +19,16 @@ fn power_of_ten(exponent: usize) -> u32
 pub fn digit_count(n: u32) -> usize
     ensures { result ≡ length (digits_of n) }
 {
-    let mut count = 1;
-    while count < 10 {
+    for count in 1..10 {
         if n < power_of_ten(count) {
             return count;
         }
-        count += 1;
     }
-    count
+    10
 }
 
 // A digit, and what is left behind it.
-#[derive(Drop)]
+#[derive(Clone, Copy)]
 struct Digit {
     digit: u8,
     rest: u32,
@@ -41,17 +39,18 @@ fn digit_at(n: u32, power: u32) -> Digit
     requires { n < 10 * power }
     ensures { (n ≡ result.digit * power + result.rest) × (result.rest < power) × (result.digit ≤ 9) }
 {
-    let mut digit = 0;
     let mut rest = n;
-    while digit < 9 && power <= rest {
+    for digit in 0..9 {
+        if rest < power {
+            return Digit { digit, rest };
+        }
         rest -= power;
-        digit += 1;
     }
-    Digit { digit, rest }
+    Digit { digit: 9, rest }
 }
 
 // How far a number is written: where its next digit goes, and what is left of the number.
-#[derive(Drop)]
+#[derive(Clone, Copy)]
 struct Begun {
     at: usize,
     rest: u32,
@@ -65,11 +64,10 @@ fn write_digit(out: &mut [u8], n: u32, begun: Begun, power: u32) -> Begun
     if n < power {
         return begun;
     }
-    let at = begun.at;
     let next = digit_at(begun.rest, power);
-    out[at] = 48 + next.digit;
+    out[begun.at] = b'0' + next.digit;
     Begun {
-        at: at + 1,
+        at: begun.at + 1,
         rest: next.rest,
     }
 }
@@ -97,7 +95,6 @@ pub fn write_digits(out: &mut [u8], n: u32) -> usize
     let high = write_three(out, n, start, 1000000000, 100000000, 10000000);
     let middle = write_three(out, n, high, 1000000, 100000, 10000);
     let low = write_three(out, n, middle, 1000, 100, 10);
-    let at = low.at;
-    out[at] = 48 + low.rest as u8;
-    at + 1
+    out[low.at] = b'0' + low.rest as u8;
+    low.at + 1
 }

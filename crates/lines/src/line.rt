@@ -5,38 +5,28 @@ ghost use Rattle.dqbf.specs.Line.{digits_of, spaced};
 ghost use Rattle.lines.specs.Lines.{line_of, output_size, written, with_line};
 ghost use Rattle.lines.specs.declared.line.Verdict.TheVariants.{Bad};
 
-use dqbf::refusal::Refusal;
+use super::digits;
 
-// What is printed: accepted steps and lowest empty clause; accepted steps; a step with its refusal; a line of the formula with its refusal.
-#[derive(Drop)]
+// What is printed: accepted steps and lowest empty clause; accepted steps; a step with the number of its refusal and the variable that it names; a line of the
+// formula with the number of its refusal.
+#[derive(Clone, Copy, PartialEq, Eq)]
 pub enum Verdict {
     Refuted(u32, u32),
     Open(u32),
-    Bad(u32, Refusal),
+    Bad(u32, u16, Option<u16>),
     Formula(u32, u32),
 }
 
 // Bytes that are lent for a line: enough for every one.
 pub const LINE_SIZE: usize = 32;
 
-// How many bytes were written; or fewer than LINE_SIZE were lent, and none is changed.
-#[derive(Drop)]
-pub enum Written {
-    Bytes(usize),
-    TooShort,
-}
-
 // Copies a word to the front of `out`.
 fn write_word(out: &mut [u8], word: &[u8]) -> usize
     requires { length word.now ≤ length out.old }
     ensures { (result ≡ length word.now) × (out.new ≡ word.now ++ drop (length word.now) out.old) }
 {
-    let mut at = 0;
-    while at < word.len() {
-        out[at] = word[at];
-        at += 1;
-    }
-    at
+    out[..word.len()].copy_from_slice(word);
+    word.len()
 }
 
 // A space and a number's digits.
@@ -44,9 +34,8 @@ fn write_number(out: &mut [u8], n: u32) -> usize
     requires { length (space ∷ digits_of n) ≤ length out.old }
     ensures { (result ≡ length (space ∷ digits_of n)) × (out.new ≡ (space ∷ digits_of n) ++ drop (length (space ∷ digits_of n)) out.old) }
 {
-    out[0] = 32;
-    let count = crate::digits::write_digits(&mut out[1..], n);
-    count + 1
+    out[0] = b' ';
+    digits::write_digits(&mut out[1..], n) + 1
 }
 
 // Numbers, each behind a space, and the line feed.
@@ -56,12 +45,10 @@ fn write_numbers(out: &mut [u8], numbers: &[u32]) -> usize
         × (out.new ≡ spaced numbers.now ++ drop (length (spaced numbers.now)) out.old) }
 {
     let mut at = 0;
-    let mut i = 0;
-    while i < numbers.len() {
-        at += write_number(&mut out[at..], numbers[i]);
-        i += 1;
+    for &number in numbers {
+        at += write_number(&mut out[at..], number);
     }
-    out[at] = 10;
+    out[at] = b'\n';
     at + 1
 }
 
@@ -72,44 +59,32 @@ fn write_word_numbers(out: &mut [u8], word: &[u8], numbers: &[u32]) -> usize
         × (out.new ≡ (word.now ++ spaced numbers.now) ++ drop (length (word.now ++ spaced numbers.now)) out.old) }
 {
     let at = write_word(out, word);
-    let rest = write_numbers(&mut out[at..], numbers);
-    at + rest
+    at + write_numbers(&mut out[at..], numbers)
 }
 
 // The step, the number of its refusal, and the variable that it names.
-fn write_bad(out: &mut [u8], step: u32, why: Refusal) -> usize
+fn write_bad(out: &mut [u8], step: u32, number: u16, variable: Option<u16>) -> usize
     requires { output_size ≤ length out.old }
-    ensures { (result ≡ length (line_of (Bad step why))) × (out.new ≡ line_of (Bad step why) ++ drop (length (line_of (Bad step why))) out.old) }
+    ensures { (result ≡ length (line_of (Bad step number variable)))
+        × (out.new ≡ line_of (Bad step number variable) ++ drop (length (line_of (Bad step number variable))) out.old) }
 {
-    match why {
-        Refusal::Plain(number) => write_word_numbers(out, b"bad", &[step, number as u32]),
-        Refusal::Naming(number, variable) => write_word_numbers(
-            out,
-            b"bad",
-            &[step, number as u32, variable as u32],
-        ),
+    match variable {
+        None => write_word_numbers(out, b"bad", &[step, number as u32]),
+        Some(named) => write_word_numbers(out, b"bad", &[step, number as u32, named as u32]),
     }
 }
 
-// Writes the line to the front of `out`; the rest stays.
-pub fn write_line(out: &mut [u8], verdict: Verdict) -> Written
+// Writes the line to the front of `out`, and answers how many bytes that are; the rest stays. None: fewer than LINE_SIZE bytes are lent, and none is changed.
+pub fn write_line(out: &mut [u8], verdict: Verdict) -> Option<usize>
     ensures { (result ≡ written (line_of verdict) out.old) × (out.new ≡ with_line (line_of verdict) out.old) }
 {
     if out.len() < LINE_SIZE {
-        return Written::TooShort;
+        return None;
     }
-    match verdict {
-        Verdict::Refuted(steps, clause) => Written::Bytes(write_word_numbers(
-            out,
-            b"refuted",
-            &[steps, clause],
-        )),
-        Verdict::Open(steps) => Written::Bytes(write_word_numbers(out, b"open", &[steps])),
-        Verdict::Bad(step, why) => Written::Bytes(write_bad(out, step, why)),
-        Verdict::Formula(line, number) => Written::Bytes(write_word_numbers(
-            out,
-            b"formula",
-            &[line, number],
-        )),
-    }
+    Some(match verdict {
+        Verdict::Refuted(steps, clause) => write_word_numbers(out, b"refuted", &[steps, clause]),
+        Verdict::Open(steps) => write_word_numbers(out, b"open", &[steps]),
+        Verdict::Bad(step, number, variable) => write_bad(out, step, number, variable),
+        Verdict::Formula(line, number) => write_word_numbers(out, b"formula", &[line, number]),
+    })
 }

@@ -1,14 +1,13 @@
 -- Working definitions: the calculus' definitions (dqbf, specs/Text.antt) in the shape that the loops walk.
 -- One that is proved equal to an official definition says to which; the proofs are in proofs/Laws/Numbers.antt and proofs/Laws/Official.antt.
--- Offers `digits_from`, `plus_one`, `each`, `rank_of`, `entry_of`, `is_digit`, `minus_of`, `digit_of`, `ranked`, `Leading`, `entries`, `count_of`, `Gathered`.
-use Rattle.std.specs.Prelude.{◌≡◌, Bool, cond, ◌&&◌, List, [], ◌∷◌, ℕ, ◌+◌, ◌-◌, ◌*◌, ◌≤◌, ◌<◌, eqb, leb, length, take, drop, get_or}
+-- Offers `digits_from`, `answered`, `each`, `rank_of`, `entry_of`, `is_digit`, `minus_of`, `digit_of`, `ranked`, `Led`, `Leading`, `entries`, `count_of`, `Gathered`.
+use Rattle.std.specs.Prelude.{◌≡◌, Bool, cond, ◌&&◌, List, [], ◌∷◌, ℕ, ◌+◌, ◌-◌, ◌*◌, ◌≤◌, ◌<◌, eqb, leb, length, take, drop, get_or, None, Some}
+use Rattle.std.specs.declared.option.Option as answer
 use Rattle.std.proofs.Math.Option.{Option, none, some}
 use Rattle.dqbf.specs.Literal.{rank}
 use Rattle.dqbf.specs.Text.{space, minus, all_digits, value_from, variable_of, literal_of, prepend, closed}
 use Rattle.tokens.specs.Working.{words_of}
 use Rattle.numerals.specs.declared.list.Listed.{Listed}
-use Rattle.numerals.specs.declared.list.Gathering.{Gathering}
-use Rattle.numerals.specs.declared.list.Gathering.TheVariants.{Count, Open}
 
 -- ---- numbers
 
@@ -16,10 +15,10 @@ use Rattle.numerals.specs.declared.list.Gathering.TheVariants.{Count, Open}
 unfoldable pub digits_from : ℕ → List ℕ → Option ℕ
 digits_from n w = cond (all_digits w) (some (value_from n w)) none
 
--- a number that may be missing as one number: one more, and 0 for none
-unfoldable pub plus_one : Option ℕ → ℕ
-plus_one none = 0
-plus_one (some n) = n + 1
+-- what the calculus says of something that may be missing, as a function answers it
+unfoldable pub answered : {A : Type 0} → Option A → answer.Option A
+answered none = None
+answered (some a) = Some a
 
 unfoldable pub each : {A B : Type 0} → (A → B) → Option A → Option B
 each f none = none
@@ -51,12 +50,17 @@ digit_of (b ∷ bs) = cond (is_digit b) (b - 48) 0
 unfoldable pub ranked : Bool → ℕ → ℕ → ℕ
 ranked signed v n = cond signed (2 * v + n) v
 
--- What stands at a place of a list: a number that a space follows, in front of the list behind that space.
--- Where none does, there is a space, the closing 0, or no list.
-pub record Leading (signed : Bool) (line : List ℕ) (at : ℕ) (t : Listed) : Type 0 where
-  pub found : 0 < t.number → (at + 2 ≤ t.next) × (t.next ≤ length line)
-      × (closed (entry_of signed) (words_of (drop at line)) ≡ prepend (some t.number) (closed (entry_of signed) (words_of (drop t.next line))))
-  pub missing : t.number ≡ 0 → (get_or line at 0 ≡ space → ⊥) → (get_or line at 0 ≡ 48 → at + 1 ≡ length line → ⊥)
+-- A number stands at a place of a list, and a space behind it: the number is in front of the list behind that space.
+pub record Led (signed : Bool) (line : List ℕ) (at : ℕ) (t : Listed) : Type 0 where
+  pub positive : 0 < t.number
+  pub low : at + 2 ≤ t.next
+  pub high : t.next ≤ length line
+  pub list : closed (entry_of signed) (words_of (drop at line)) ≡ prepend (some t.number) (closed (entry_of signed) (words_of (drop t.next line)))
+
+-- What stands at a place of a list: such a number, or else a space, the closing 0, or no list.
+pub record Leading (signed : Bool) (line : List ℕ) (at : ℕ) (o : answer.Option Listed) : Type 0 where
+  pub found : (t : Listed) → o ≡ Some t → Led signed line at t
+  pub missing : o ≡ None → (get_or line at 0 ≡ space → ⊥) → (get_or line at 0 ≡ 48 → at + 1 ≡ length line → ⊥)
       → closed (entry_of signed) (words_of (drop at line)) ≡ none
 
 -- ---- answers
@@ -65,10 +69,10 @@ unfoldable pub entries : Option (List ℕ) → List ℕ
 entries none = []
 entries (some xs) = xs
 
-unfoldable pub count_of : Option (List ℕ) → Gathering
-count_of none = Open
-count_of (some xs) = Count (length xs)
+unfoldable pub count_of : Option (List ℕ) → answer.Option ℕ
+count_of none = None
+count_of (some xs) = Some (length xs)
 
-pub record Gathered (o : Option (List ℕ)) (answer : Gathering) (numbers : List ℕ) : Type 0 where
-  pub count : answer ≡ count_of o
+pub record Gathered (o : Option (List ℕ)) (count : answer.Option ℕ) (numbers : List ℕ) : Type 0 where
+  pub count-is : count ≡ count_of o
   pub front : take (length (entries o)) numbers ≡ entries o

@@ -1,28 +1,16 @@
 // Byte strings and numbers of an open file of cases; how it is packed stands in reference/cases/src/packed.rs. Numbers are 16 bits, little-endian.
 #![tactic(auto)]
 
-ghost use Rattle.std.specs.Prelude.{◌≤◌, ◌<◌, length};
+ghost use Rattle.std.specs.Prelude.{◌≤◌, length};
 
+use std::io;
 use std::io::Read;
 
-fn wide(byte: u8) -> usize
-    ensures { result < 256 }
-{
-    byte as usize
-}
-
-fn number_of(two: &[u8]) -> usize {
-    if two.len() < 2 {
-        return 0;
-    }
-    wide(two[0]) + 256 * wide(two[1])
-}
-
 // The next number; 0 at the end of the file.
-pub fn read_number(file: &mut impl Read) -> usize {
+fn read_number(file: &mut impl Read) -> usize {
     let mut two = [0u8; 2];
     files::read_whole(file, &mut two);
-    number_of(&two)
+    u16::from_le_bytes(two) as usize
 }
 
 // Appends a unit behind the first `done` bytes, if there is room.
@@ -33,23 +21,18 @@ fn append(unit: &[u8], bytes: &mut [u8], done: usize) -> usize
     if bytes.len() - done < unit.len() {
         return done;
     }
-    let mut at = 0;
-    while at < unit.len() {
-        bytes[done + at] = unit[at];
-        at += 1;
-    }
-    done + at
+    let end = done + unit.len();
+    bytes[done..end].copy_from_slice(unit);
+    end
 }
 
 fn append_times(unit: &[u8], times: usize, bytes: &mut [u8], done: usize) -> usize
     requires { done ≤ length bytes.old }
     ensures { result ≤ length bytes.new }
 {
-    let mut left = times;
     let mut end = done;
-    while 0 < left {
+    for _ in 0..times {
         end = append(unit, bytes, end);
-        left -= 1;
     }
     end
 }
@@ -72,18 +55,43 @@ fn read_run(file: &mut impl Read, unit: &mut [u8], bytes: &mut [u8], done: usize
 }
 
 // A byte string; 65,535 runs stand for the one of the case before, of so many bytes.
-pub fn read_string(file: &mut impl Read, unit: &mut [u8], bytes: &mut [u8], before: usize) -> usize
+fn read_string(file: &mut impl Read, unit: &mut [u8], bytes: &mut [u8], before: usize) -> usize
     requires { before ≤ length bytes.old }
     ensures { result ≤ length bytes.new }
 {
-    let mut left = read_number(file);
-    if left == 65535 {
+    let runs = read_number(file);
+    if runs == 65535 {
         return before;
     }
     let mut done = 0;
-    while 0 < left {
+    for _ in 0..runs {
         done = read_run(file, unit, bytes, done);
-        left -= 1;
     }
     done
+}
+
+// Calls `visit` with label, text and list of each case of the file, until one fails.
+pub fn each_case<F: FnMut(&[u8], &[u8], &[u8]) -> io::Result<()>>(
+    file: &mut impl Read,
+    mut visit: F,
+) -> io::Result<()>
+    requires { F.IsAlwaysCallable visit }
+{
+    let mut unit = [0u8; 33000];
+    let mut text = [0u8; 33000];
+    let mut records = [0u8; 33000];
+    let mut label = [0u8; 200];
+    let mut text_length = 0;
+    let mut records_length = 0;
+    for _ in 0..read_number(file) {
+        text_length = read_string(file, &mut unit, &mut text, text_length);
+        records_length = read_string(file, &mut unit, &mut records, records_length);
+        let label_length = read_string(file, &mut unit, &mut label, 0);
+        visit(
+            &label[..label_length],
+            &text[..text_length],
+            &records[..records_length],
+        )?;
+    }
+    Ok(())
 }

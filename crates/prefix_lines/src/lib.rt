@@ -3,4 +3,3 @@
 
 pub mod declarations;
 pub mod progress;
-pub mod refusal;

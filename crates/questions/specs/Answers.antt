@@ -3,35 +3,33 @@
 --     length_told, variable_told          the paper's numbers and values for each case of an answer
 --     length_answer, variable_answer      the outcome of a question
 --     Shown                             the stretch that is shown: its place in the caller's literals and the clause in it
-use Rattle.std.specs.Prelude.{◌≡◌, cond, List, [], ℕ, ◌+◌, ◌-◌, ◌*◌, ℤ}
+use Rattle.std.specs.Prelude.{◌≡◌, cond, List, [], Result, Ok, Err, ℕ, ◌+◌, ◌-◌, ◌*◌, ℤ}
 use Rattle.std.specs.Borrow.{Bor}
 use Rattle.dqbf.specs.Literal.{Clause}
-use Rattle.dqbf.specs.Refusal.{refusal}
+use Rattle.dqbf.specs.Refusal.{refusal_told}
 use Rattle.dqbf.specs.Rules.{unknown}
 use Rattle.dqbf.specs.Questions as Questions
 use Rattle.dqbf.specs.Questions.{ClauseAnswer, clause_length, no_clause, ask_clause, no_variable, ask_variable}
 use Rattle.tables.specs.declared.State.{State}
 use Rattle.tables.specs.Tables.{Tables, entry, model_in}
 use Rattle.tables.specs.Unusable.{unusable, unless_refused}
-use Rattle.questions.specs.declared.LengthAnswer.{LengthAnswer}
-use Rattle.questions.specs.declared.LengthAnswer.TheVariants.{Length, Refused}
-use Rattle.questions.specs.declared.VariableAnswer.{VariableAnswer}
-use Rattle.questions.specs.declared.VariableAnswer.TheVariants as Variable
+use Rattle.dqbf.specs.declared.refusal.Refusal as Code
+use Rattle.questions.specs.declared.VariableEntry.{VariableEntry}
 
 -- ---- the length of a clause
 
-unfoldable pub length_told : LengthAnswer → ClauseAnswer
-length_told (Length n) = clause_length n
-length_told (Refused number) = no_clause (refusal number)
+abbrev pub length_told : Result ℕ Code.Refusal → ClauseAnswer
+length_told (Ok n) = clause_length n
+length_told (Err r) = no_clause (refusal_told r)
 
 unfoldable pub length_answer : Tables → State → ℕ → ClauseAnswer
 length_answer t s c = unless_refused (unusable t s) no_clause (ask_clause (model_in t s) c)
 
 -- ---- kind and set size of a variable
 
-unfoldable pub variable_told : VariableAnswer → Questions.VariableAnswer
-variable_told (Variable.Known kind universals) = Questions.variable kind universals
-variable_told (Variable.Refused number) = no_variable (refusal number)
+abbrev pub variable_told : Result VariableEntry Code.Refusal → Questions.VariableAnswer
+variable_told (Ok x) = Questions.variable x.kind x.universals
+variable_told (Err r) = no_variable (refusal_told r)
 
 unfoldable pub variable_answer : Tables → State → ℕ → Questions.VariableAnswer
 variable_answer t s x = unless_refused (unusable t s) no_variable (ask_variable (model_in t s) x)

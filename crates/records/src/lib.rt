@@ -1,9 +1,7 @@
 // Step records (document 01, "Step records"): sixteen bytes each, little-endian.
 #![tactic(auto)]
 
-ghost use Rattle.std.specs.Prelude.{◌≡◌, ◌+◌, ◌<◌, ◌≤◌, length};
-ghost use Rattle.std.proofs.Math.Seq.{slice};
-ghost use Rattle.dqbf.specs.Bytes.{number};
+ghost use Rattle.std.specs.Prelude.{◌≡◌};
 ghost use Rattle.dqbf.specs.Record as Calculus;
 ghost use Rattle.records.specs.Record.{decoded_in};
 
@@ -11,7 +9,7 @@ ghost use Rattle.records.specs.Record.{decoded_in};
 pub const RECORD_SIZE: usize = 16;
 
 // The three kinds of steps.
-#[derive(Drop)]
+#[derive(Clone, Copy, PartialEq, Eq)]
 pub enum Step {
     Resolution {
         clause: u32,
@@ -29,81 +27,32 @@ pub enum Step {
     },
 }
 
-// What a record says: a step, or number 20: the kind is not 1 to 3, a byte stated as 0 is not, or there are fewer than 16 bytes.
-#[derive(Drop)]
-pub enum Decoded {
-    Step(Step),
-    Malformed,
-}
-
-fn wide(byte: u8) -> u32
-    ensures { (result ≡ byte) × (result < 256) }
-{
-    byte as u32
-}
-
-// The number of four bytes, the lowest first.
-fn number_at(bytes: &[u8], at: usize) -> u32
-    requires { at + 4 ≤ length bytes.now }
-    ensures { result ≡ number (slice at (at + 4) bytes.now) }
-{
-    wide(bytes[at])
-        + 256 * wide(bytes[at + 1])
-        + 65536 * wide(bytes[at + 2])
-        + 16777216 * wide(bytes[at + 3])
-}
-
-// A number of 32 bits as a signed one, in two's complement.
-fn signed(n: u32) -> i32
-    ensures { result ≡ Calculus.signed n }
-{
-    if n < 2147483648 {
-        return n as i32;
-    }
-    -1 - ((4294967295 - n) as i32)
-}
-
-// The record at the front of some bytes; those behind the sixteenth are not read.
-pub fn decode(bytes: &[u8]) -> Decoded
+// The record at the front of some bytes; those behind the sixteenth are not read. None is number 20: the kind is not 1 to 3, a byte stated as 0 is not,
+// or there are fewer than 16 bytes.
+pub fn decode(bytes: &[u8]) -> Option<Step>
     ensures { decoded_in result ≡ Calculus.record_of bytes.now }
 {
-    if bytes.len() < RECORD_SIZE {
-        return Decoded::Malformed;
-    }
-    if bytes[1] != 0 || bytes[2] != 0 || bytes[3] != 0 {
-        return Decoded::Malformed;
-    }
-    let kind = bytes[0];
-    let clause = number_at(bytes, 4);
-    let second = number_at(bytes, 8);
-    let third = number_at(bytes, 12);
+    let [kind, 0, 0, 0, a, b, c, d, e, f, g, h, i, j, k, l, ..] = *bytes else {
+        return None;
+    };
+    let clause = u32::from_le_bytes([a, b, c, d]);
+    let second = u32::from_le_bytes([e, f, g, h]);
+    let third = u32::from_le_bytes([i, j, k, l]);
     match kind {
-        1 => {
-            let step = Step::Resolution {
-                clause,
-                second,
-                pivot: signed(third),
-            };
-            Decoded::Step(step)
-        }
-        2 => {
-            if second != 0 {
-                return Decoded::Malformed;
-            }
-            let step = Step::Reduction {
-                clause,
-                literal: signed(third),
-            };
-            Decoded::Step(step)
-        }
-        3 => {
-            let step = Step::Fork {
-                clause,
-                left: second,
-                right: third,
-            };
-            Decoded::Step(step)
-        }
-        _ => Decoded::Malformed,
+        1 => Some(Step::Resolution {
+            clause,
+            second,
+            pivot: third.cast_signed(),
+        }),
+        2 if second == 0 => Some(Step::Reduction {
+            clause,
+            literal: third.cast_signed(),
+        }),
+        3 => Some(Step::Fork {
+            clause,
+            left: second,
+            right: third,
+        }),
+        _ => None,
     }
 }

@@ -18,14 +18,14 @@ use Rattle.sets.proofs.Laws.Tables.{table-zeros}
 use Rattle.tables.specs.Spread.{spread, state_of, zero_state}
 use Rattle.tables.specs.declared.State.{State}
 use Rattle.dqdimacs.specs.Loading.{AfterLoad, load_of}
-use Rattle.dqdimacs.specs.declared.LoadAnswer.{LoadAnswer}
-use Rattle.dqdimacs.specs.declared.LoadAnswer.TheVariants as Load
+use Rattle.dqdimacs.specs.Loading.{LoadAnswer}
+use Rattle.dqdimacs.specs.Loading as Load
 use Rattle.steps.specs.Steps.{step_of, run_of}
 use Rattle.steps.specs.Runs.{verdict_in}
 use Rattle.codec.specs.Bytes.{digits, entries, bytes_of, bits, literals_in, literal_bytes, over}
 use Rattle.codec.specs.State.{counts, state_bytes}
 use Rattle.codec.proofs.Laws.Bytes.{entries-length}
-use Rattle.codec.proofs.Laws.Turns.{literals-length}
+use Rattle.codec.proofs.Laws.Tables.{literals-length}
 use Rattle.buffers.specs.Buffers.{Buffers, whole, tables_in, state_in, written}
 use Rattle.buffers.proofs.Laws.{lent-long}
 use Rattle.results.specs.Results.{packed, field, named_variable, refusal_in, run_result}

@@ -1,7 +1,7 @@
 -- DEMAND 1, "refusals leave exactly the stated contents" (document 01, "Numbers of refusal": "After 1 and 2 tables and state are unchanged", to "as before that
 -- step"): what each refused call leaves.
 --
--- `load_of`, `step_of` and `run_of` are the outcomes that the contracts of `load`, `step` and `run` promise of lent tables (`step_told` and `run_told` give the answer
+-- `load_of`, `step_of` and `run_of` are the outcomes that the contracts of `load`, `step` and `run` promise of lent tables (`refusal_in` and `run_told` give the answer
 -- for each case of the code's). So the claims hold of these calls for all table contents, every state and all bytes; `long` is the test of number 1, `well_formed` that of number 2.
 --     ShortSame          number 1: load, step and run leave all four tables, step and run the state; a load hands back a zero state
 --     FormlessSame       number 2: step and run leave tables and state
@@ -27,7 +27,7 @@
 --     WriteSame, WriteBytesSame      a refusal, whatever its number (1, 2, 30), leaves the output
 --     WriteRest, WriteBytesRest      behind a written text the output is as it was, and as long
 --     WriteBytesShort                number 1: too few bytes in any buffer
-use Rattle.std.specs.Prelude.{◌≡◌, ◌⊎◌, true, false, cond, List, [], ◌∷◌, ◌++◌, ℕ, suc, ◌+◌, ◌*◌, ◌≤◌, ◌<◌, ℤ, pos, length, replicate, take, drop}
+use Rattle.std.specs.Prelude.{◌≡◌, ◌⊎◌, None, true, false, cond, List, [], ◌∷◌, ◌++◌, ℕ, suc, ◌+◌, ◌*◌, ◌≤◌, ◌<◌, ℤ, pos, length, replicate, take, drop}
 use Rattle.std.proofs.Math.Option.{some}
 use Rattle.dqbf.specs.Limits.{clause_limit, literal_limit, variable_limit, record_size}
 use Rattle.dqbf.specs.Refusal.{Refusal, refusal}
@@ -40,12 +40,11 @@ use Rattle.tables.specs.Spread.{zero_state}
 use Rattle.tables.specs.WellFormed.{long, well_formed}
 use Rattle.tables.specs.declared.State.{State}
 use Rattle.dqdimacs.specs.Loading.{AfterLoad, load_of}
-use Rattle.dqdimacs.specs.declared.LoadAnswer.TheVariants as Load
+use Rattle.dqdimacs.specs.Loading as Load
 use Rattle.steps.specs.Steps.{step_of, run_of}
 use Rattle.steps.specs.Runs.{verdict_in}
 use Rattle.formula_text.specs.Writing.{text_length, no_text, write_of}
 use Rattle.lines.specs.Lines.{output_size, written, with_line}
-use Rattle.lines.specs.declared.line.Written.TheVariants.{TooShort}
 use Rattle.verdict.specs.Judging.{judged_tables}
 use Rattle.codec.specs.Bytes.{over}
 use Rattle.buffers.specs.Buffers.{Buffers, buffers_of, state_size, state_whole, whole, tables_in, state_in}
@@ -151,7 +150,7 @@ JudgeLeaves =
     × (loaded.answer ≡ Load.Accepted → judged_tables t text records ≡ (run_of loaded.tables loaded.state records).tables)
 
 abbrev pub JudgeShort : Type 0
-JudgeShort = (line out : List ℕ) → length out < output_size → (written line out ≡ TooShort) × (with_line line out ≡ out)
+JudgeShort = (line out : List ℕ) → length out < output_size → (written line out ≡ None) × (with_line line out ≡ out)
 
 -- ---- the driver's buffers: "too few bytes in any of them is 1, and nothing lent is changed then, except that a load zeroes a state lent whole"
 

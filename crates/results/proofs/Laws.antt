@@ -1,7 +1,7 @@
 -- Results: their fields, that of a shown clause, and that of a written text.
 --     case-is, first-is, second_is, third-is      the case, and values of 16 bits
 --     first-cut, second-cut, third-cut            any values
---     length-told, two_fields                     the length of a written text from its halves, and from the two values
+--     two_fields                                  the length of a written text from its two values
 --     stretch-shown                               a shown clause from its place and its length
 use mathlib.Core.Path.{◌≡◌, refl}
 use mathlib.Core.Bool.{Bool, true, false, cond}
@@ -63,11 +63,6 @@ module _ (k a b c : ℕ) (h : k < 65536) where
 
   pub third-is : c < 65536 → field 3 (packed k a b c) ≡ c
   third-is i = omega (arith, third-cut)
-
--- the length of a text, packed from its halves
-pub length-told : (n : ℕ) {r : ℕ} → r ≡ packed 1 (n % 65536) (n / 65536 % 65536) 0 → r ≡ write_result (text_length n)
-unfolding write_result packed
-length-told n told = omega arith
 
 -- both values of a length below 2^32 make the length again
 halves : (n : ℕ) → n < 4294967296 → field 1 (packed 1 n (n / 65536) 0) + 65536 * field 2 (packed 1 n (n / 65536) 0) ≡ n

@@ -11,8 +11,8 @@ use Rattle.dqbf.specs.Refusal.{Refusal, refusal, naming}
 use Rattle.dqbf.specs.Literal.{Clause}
 use Rattle.dqbf.specs.Questions.{ClauseAnswer, clause_length, no_clause, VariableAnswer, variable, no_variable}
 use Rattle.dqbf.specs.Run.{Verdict, refuted, open', bad}
-use Rattle.dqdimacs.specs.declared.LoadAnswer.{LoadAnswer}
-use Rattle.dqdimacs.specs.declared.LoadAnswer.TheVariants as Load
+use Rattle.dqdimacs.specs.Loading.{LoadAnswer}
+use Rattle.dqdimacs.specs.Loading as Load
 use Rattle.formula_text.specs.Writing.{TextAnswer, text_length, no_text}
 
 unfoldable pub packed : ℕ → ℕ → ℕ → ℕ → ℕ

@@ -24,7 +24,7 @@ use Rattle.tables.specs.Unusable.{table_tests, unless_refused}
 use Rattle.tables.specs.WellFormed.{long, well_formed}
 use Rattle.tables.proofs.Laws.Spread.{valid-held, model-back, formed-spread, spread-again, long-spread}
 use Rattle.dqdimacs.specs.Loading.{load_of}
-use Rattle.dqdimacs.specs.declared.LoadAnswer.TheVariants.{Accepted}
+use Rattle.dqdimacs.specs.Loading.{Accepted}
 use Rattle.dqdimacs.proofs.LoadFormed.{accepted-exactly}
 use Rattle.steps.specs.Steps.{examined, step_refused, step_of, ran_on, run_refused, run_of}
 use Rattle.formula_text.specs.Writing.{write_tests, write_of}

@@ -19,7 +19,7 @@ use Rattle.tables.specs.Spread.{spread, state_of}
 use Rattle.tables.specs.WellFormed.{long, well_formed}
 use Rattle.tables.proofs.Laws.Spread.{valid-held, model-back, spread-again, long-spread}
 use Rattle.dqdimacs.specs.Loading.{load_answer, loaded_model, loaded_on, load_of}
-use Rattle.dqdimacs.specs.declared.LoadAnswer.TheVariants.{Accepted}
+use Rattle.dqdimacs.specs.Loading.{Accepted}
 use Rattle.dqdimacs.proofs.LoadFormed.{accepted-exactly}
 use Rattle.dqbf.specs.Spelled.{formula_part, spelled, formula_of}
 use Rattle.dqbf.proofs.ReadsBack.{loads-back}

@@ -9,7 +9,7 @@ use Rattle.dqbf.specs.Limits.{text_limit}
 use Rattle.tables.specs.declared.State.{State}
 use Rattle.tables.specs.Tables.{Tables}
 use Rattle.dqdimacs.specs.Loading.{load_of}
-use Rattle.dqdimacs.specs.declared.LoadAnswer.TheVariants.{Accepted}
+use Rattle.dqdimacs.specs.Loading.{Accepted}
 use Rattle.steps.specs.Steps.{step_of, AfterRun, run_of}
 use Rattle.formula_text.specs.Writing.{write_of}
 use Rattle.round_trip.specs.Statements.{WroteText, text_of}

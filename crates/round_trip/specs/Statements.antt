@@ -14,7 +14,7 @@ use Rattle.tables.specs.Tables.{Tables, model_in}
 use Rattle.tables.specs.Spread.{spread, state_of}
 use Rattle.tables.specs.WellFormed.{long}
 use Rattle.dqdimacs.specs.Loading.{AfterLoad, load_of}
-use Rattle.dqdimacs.specs.declared.LoadAnswer.TheVariants.{Accepted}
+use Rattle.dqdimacs.specs.Loading.{Accepted}
 use Rattle.dqbf.specs.Spelled.{formula_part}
 use Rattle.dqbf.specs.Statements.Exact.{SameFormula}
 use Rattle.formula_text.specs.Writing.{text_length, no_text, write_of, tidy_limit}

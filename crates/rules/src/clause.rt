@@ -7,14 +7,11 @@ ghost use Rattle.rules.specs.Clauses.{is_unknown, Ranged};
 use tables::{ClauseNumber, State, entries};
 
 // Whether a clause number is 0 or above the count.
+#[tactic(auto, using(std::proofs::lemmas::Bool::Decides::nat_tests), unfolding(crate::specs::Clauses::is_unknown))]
 pub fn is_unknown(state: State, clause: ClauseNumber) -> bool
     ensures { result ≡ is_unknown state clause.0 }
 {
-    let count = state.clauses;
-    if clause.0 == 0 {
-        return true;
-    }
-    count.0 < clause.0
+    clause.0 == 0 || state.clauses < clause
 }
 
 // The clause with a number: a part of the literals.

@@ -35,21 +35,21 @@ pub fn inside(s: [u64; 4], t: [u64; 4]) -> bool
 pub fn size(s: [u64; 4]) -> u32
     ensures { (result ≡ Set.size (as_set s)) × (result ≤ universal_limit) }
 {
-    u64::count_ones(s[0]) + u64::count_ones(s[1]) + u64::count_ones(s[2]) + u64::count_ones(s[3])
+    s[0].count_ones() + s[1].count_ones() + s[2].count_ones() + s[3].count_ones()
 }
 
 // Whether two sets are the same.
 pub fn same(s: [u64; 4], t: [u64; 4]) -> bool
     ensures { result ≡ eqb (as_set s) (as_set t) }
 {
-    (s[0] == t[0]) & (s[1] == t[1]) & (s[2] == t[2]) & (s[3] == t[3])
+    s == t
 }
 
 // Whether a set is empty.
 pub fn is_empty(s: [u64; 4]) -> bool
     ensures { result ≡ eqb (as_set s) Set.empty_set }
 {
-    (s[0] == 0) & (s[1] == 0) & (s[2] == 0) & (s[3] == 0)
+    s == [0; 4]
 }
 
 // The set of one place.

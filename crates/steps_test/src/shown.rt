@@ -1,28 +1,17 @@
 // The clauses as they are shown.
-use api::{ClauseNumber, State};
+use api::{ClauseNumber, Lent};
 use std::io;
 
 // Every clause behind a stroke, with the two unknown numbers around them: 0 and the one above the count. No state has more than 2,048 clauses.
-pub fn clauses(
-    rt: &impl Print,
-    literals: &[i16],
-    ends: &[u16],
-    sets: &[u64],
-    kinds: &[u8],
-    state: State,
-) -> io::Result<()> {
+pub fn clauses(rt: &impl Print, tables: &Lent) -> io::Result<()> {
     rt.write_all(b"\nshown")?;
-    let last = state.clauses;
-    let count = last.0;
+    let count = tables.state.clauses.0;
     if count > 2048 {
         return Ok(());
     }
-    let mut number = 0;
-    while number < count + 2 {
-        let clause = ClauseNumber(number);
+    for number in 0..count + 2 {
         rt.write_all(b" /")?;
-        printed::literals(rt, api::show(literals, ends, sets, kinds, state, clause))?;
-        number += 1;
+        printed::literals(rt, api::show(tables, ClauseNumber(number)))?;
     }
     println!(rt)
 }

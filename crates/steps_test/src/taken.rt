@@ -1,46 +1,29 @@
 // The steps of a list, one public call each.
-use api::{Refusal, State, StepAnswer};
+use api::{LentMut, Refusal};
 use std::io;
 
 // The number of a refusal, and behind a colon the variable that it names.
-fn print_refusal(rt: &impl Print, why: Refusal) -> io::Result<()> {
-    match why {
-        Refusal::Plain(number) => printed::number(rt, number as u32),
-        Refusal::Naming(number, variable) => {
-            printed::number(rt, number as u32)?;
-            print!(rt; ":{variable}")
-        }
+fn print_refusal(rt: &impl Print, refusal: Refusal) -> io::Result<()> {
+    printed::number(rt, u32::from(refusal.number()))?;
+    match refusal.variable() {
+        Some(variable) => print!(rt; ":{variable}"),
+        None => Ok(()),
     }
 }
 
 // 0 for an accepted step, else its refusal.
-pub fn print_answer(rt: &impl Print, answer: StepAnswer) -> io::Result<()> {
+pub fn print_answer(rt: &impl Print, answer: Result<(), Refusal>) -> io::Result<()> {
     match answer {
-        StepAnswer::Accepted => printed::number(rt, 0),
-        StepAnswer::Refused(why) => print_refusal(rt, why),
+        Ok(()) => printed::number(rt, 0),
+        Err(refusal) => print_refusal(rt, refusal),
     }
 }
 
 // One call for each record, for a cut last one, and for the empty rest behind a whole one. Each is lent all that is left of the list, of which it must read only the front;
 // and it goes on behind a refused one.
-pub fn take_steps(
-    rt: &impl Print,
-    records: &[u8],
-    literals: &mut [i16],
-    ends: &mut [u16],
-    sets: &mut [u64],
-    kinds: &mut [u8],
-    state: State,
-) -> io::Result<State> {
-    let mut current = state;
-    let mut at = 0;
-    while at <= records.len() {
-        let stepped = api::step(&records[at..], literals, ends, sets, kinds, current);
-        let next = stepped.state;
-        let answer = stepped.answer;
-        print_answer(rt, answer)?;
-        current = next;
-        at += 16;
+pub fn take_steps(rt: &impl Print, records: &[u8], tables: &mut LentMut) -> io::Result<()> {
+    for at in (0..=records.len()).step_by(16) {
+        print_answer(rt, api::step(&records[at..], tables))?;
     }
-    Ok(current)
+    Ok(())
 }

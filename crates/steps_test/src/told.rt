@@ -1,30 +1,30 @@
 // The refusal of a load, and the counts of a state.
-use api::State;
+use api::{LoadRefusal, State};
 use std::io;
 
 // The line and the number of a refused load.
-pub fn refusal(rt: &impl Print, line: u32, number: u32) -> io::Result<()> {
+pub fn refusal(rt: &impl Print, refused: LoadRefusal) -> io::Result<()> {
     rt.write_all(b"\nformula")?;
-    printed::number(rt, line)?;
-    printed::number(rt, number)?;
+    printed::number(rt, refused.line)?;
+    printed::number(rt, u32::from(refused.refusal.number()))?;
     println!(rt)
 }
 
 // The eight counts of a state.
 pub fn counts(rt: &impl Print, state: State) -> io::Result<()> {
     rt.write_all(b"\ncounts")?;
-    let bound = state.bound;
-    printed::number(rt, bound.0)?;
-    let variables = state.variables;
-    printed::number(rt, variables.0)?;
-    printed::number(rt, state.universals as u32)?;
-    let formula = state.formula;
-    printed::number(rt, formula.0)?;
-    let clauses = state.clauses;
-    printed::number(rt, clauses.0)?;
-    printed::number(rt, state.literals as u32)?;
-    let steps = state.steps;
-    printed::number(rt, steps.0)?;
-    let empty = state.empty;
-    printed::number(rt, empty.0)
+    let counts = [
+        state.bound.0,
+        state.variables.0,
+        u32::from(state.universals),
+        state.formula.0,
+        state.clauses.0,
+        u32::from(state.literals),
+        state.steps.0,
+        state.empty.0,
+    ];
+    for count in counts {
+        printed::number(rt, count)?;
+    }
+    Ok(())
 }

@@ -5,3 +5,4 @@ pub mod Adding
 pub mod Unusable
 pub mod FormulaEntries
 pub mod Statements
+pub mod Lent

@@ -1,5 +1,5 @@
 -- The refusals that every call on tables gives first (document 01, "Numbers of refusal": "1 before all").
-use Rattle.std.specs.Prelude.{not, List, [], ◌∷◌, ℕ}
+use Rattle.std.specs.Prelude.{not, List, [], ◌∷◌}
 use Rattle.std.proofs.Math.Option.{Option, none, some}
 use Rattle.dqbf.specs.Refusal.{Refusal, refusal, Test, ◌when◌, first}
 use Rattle.tables.specs.declared.State.{State}
@@ -17,7 +17,3 @@ unusable t s = first (table_tests t s)
 unfoldable pub unless_refused : {A : Type 0} → Option Refusal → (Refusal → A) → A → A
 unless_refused none refused a = a
 unless_refused (some r) refused a = refused r
-
--- its number; 0: there is none
-unfoldable pub unusable_number : Tables → State → ℕ
-unusable_number t s = unless_refused (unusable t s) (λ r. r.number) 0

@@ -4,13 +4,7 @@ ghost use Rattle.sets.specs.Words.{words_each, as_set, as_sets};
 ghost use Rattle.tables.specs.Tables.{entry};
 
 use super::{ClauseNumber, VariableNumber};
-
-// Where a clause stands in the literals.
-#[derive(Clone, Copy)]
-pub struct ClauseRange {
-    pub start: usize,
-    pub end: usize,
-}
+use std::ops::Range;
 
 // Where a clause ends; 0 for number 0.
 pub fn clause_end(ends: &[u16], clause: ClauseNumber) -> usize
@@ -26,14 +20,14 @@ pub fn clause_end(ends: &[u16], clause: ClauseNumber) -> usize
 }
 
 // A clause starts where the one before it ends.
-pub fn clause_range(ends: &[u16], clause: ClauseNumber) -> ClauseRange
+pub fn clause_range(ends: &[u16], clause: ClauseNumber) -> Range<usize>
     requires { (0 < clause.0) × (clause.0 ≤ length ends.now) }
     ensures { (result.start ≡ entry ends.now (clause.0 - 1)) × (result.end ≡ entry ends.now clause.0) }
 {
     let before = ClauseNumber(clause.0 - 1);
     let start = clause_end(ends, before);
     let end = clause_end(ends, clause);
-    ClauseRange { start, end }
+    start..end
 }
 
 // The kind of a variable; 0 for a number with no entry.

@@ -3,64 +3,45 @@ ghost use Rattle.std.specs.Prelude.{◌≡◌, cond, true, [], ◌∷◌, ◌≤
 ghost use Rattle.dqbf.specs.Limits.{clause_limit, universal_limit};
 ghost use Rattle.dqbf.specs.Model.{empty_from};
 ghost use Rattle.sets.specs.Words.{words_each, as_set, as_sets};
-ghost use Rattle.tables.specs.Tables.{tables_of, cut};
+ghost use Rattle.tables.specs.Tables.{cut};
+ghost use Rattle.tables.specs.Lent.{tables_lent};
+ghost use Rattle.dqbf.specs.Refusal.{refusal_in};
 ghost use Rattle.tables.specs.WellFormed.{every, long, counts_fit, ends_rise, clause_fits, clauses_fit, new_bit, kind_stands, variable_fits, variables_fit, rest_zero, well_formed};
-ghost use Rattle.tables.specs.Unusable.{unusable_number};
+ghost use Rattle.tables.specs.Unusable.{unusable};
 
-use super::{State, VariableNumber, adding, entries, kind, refusal, zero};
+use super::{Lent, State, VariableNumber, adding, entries, kind, zero};
 use dqbf::limits::{CLAUSE_LIMIT, LITERAL_LIMIT, UNIVERSAL_LIMIT, VARIABLE_LIMIT, WIDTH_LIMIT};
 use dqbf::literal;
-
-// No table is lent too short.
-pub fn long_enough(literals: &[i16], ends: &[u16], sets: &[u64], kinds: &[u8]) -> bool
-    ensures { result ≡ long (tables_of literals.now ends.now sets.now kinds.now) }
-{
-    if literals.len() < LITERAL_LIMIT {
-        return false;
-    }
-    if ends.len() < CLAUSE_LIMIT {
-        return false;
-    }
-    if sets.len() < sets::TABLE_WORDS {
-        return false;
-    }
-    if kinds.len() < VARIABLE_LIMIT {
-        return false;
-    }
-    true
-}
+use dqbf::refusal::Refusal;
 
 // The counts are within the limits, and add up.
+#[tactic(auto, using(std::proofs::lemmas::Bool::Decides::nat_tests), unfolding(crate::specs::WellFormed::counts_fit, crate::specs::WellFormed::within_limits, crate::specs::WellFormed::bound_in_use, crate::specs::WellFormed::clauses_add_up, crate::specs::WellFormed::every))]
 fn counts_fit(state: State) -> bool
     ensures { result ≡ counts_fit state }
 {
-    let bound = state.bound;
-    let variables = state.variables;
-    let formula = state.formula;
-    let clauses = state.clauses;
-    let steps = state.steps;
-    if bound.0 as usize > VARIABLE_LIMIT {
+    if state.bound.0 as usize > VARIABLE_LIMIT {
         return false;
     }
-    if variables.0 as usize > VARIABLE_LIMIT {
+    if state.variables.0 as usize > VARIABLE_LIMIT {
         return false;
     }
     if state.universals > UNIVERSAL_LIMIT {
         return false;
     }
-    if formula.0 as usize > CLAUSE_LIMIT {
+    if state.formula.0 as usize > CLAUSE_LIMIT {
         return false;
     }
-    if clauses.0 as usize > CLAUSE_LIMIT {
+    if state.clauses.0 as usize > CLAUSE_LIMIT {
         return false;
     }
     if state.literals as usize > LITERAL_LIMIT {
         return false;
     }
-    if bound.0 > variables.0 {
+    if state.bound > state.variables {
         return false;
     }
-    clauses.0 as u64 == formula.0 as u64 + steps.0 as u64 + (variables.0 - bound.0) as u64
+    let forks = state.variables.0 - state.bound.0;
+    state.clauses.0 as u64 == state.formula.0 as u64 + state.steps.0 as u64 + forks as u64
 }
 
 // A universal's set is a single bit, other than those seen before.
@@ -74,13 +55,11 @@ fn is_new_bit(seen: [u64; 4], set: [u64; 4]) -> bool
 }
 
 // Kind 3 stands above V and nowhere else.
+#[tactic(auto, using(std::proofs::lemmas::Bool::Decides::nat_tests), unfolding(crate::specs::WellFormed::kind_stands))]
 fn kind_stands(kind: u8, declared: bool) -> bool
     ensures { result ≡ kind_stands declared kind }
 {
-    if declared {
-        return kind != kind::FORK;
-    }
-    kind == kind::FORK
+    declared != (kind == kind::FORK)
 }
 
 // What is asked of one variable's kind and set, but for the universals' bits.
@@ -110,22 +89,20 @@ fn variables_fit(kinds: &[u8], sets: &[u64], bound: usize, universals: u16) -> b
     let places = sets::lowest(universals);
     let mut seen = [0u64; 4];
     let mut count: usize = 0;
-    let mut i = 0;
-    while i < kinds.len() {
-        let kind = kinds[i];
+    for (i, kind) in kinds.iter().enumerate() {
         let set = sets::get(sets, i);
-        if !variable_fits(kind, set, i < bound, places) {
+        if !variable_fits(*kind, set, i < bound, places) {
             return false;
         }
-        i += 1;
-        if kind == kind::UNIVERSAL {
-            if !is_new_bit(seen, set) {
-                return false;
-            }
-            let united = sets::union(seen, set);
-            seen = united;
-            count += 1;
+        if *kind != kind::UNIVERSAL {
+            continue;
         }
+        if !is_new_bit(seen, set) {
+            return false;
+        }
+        let united = sets::union(seen, set);
+        seen = united;
+        count += 1;
     }
     if count != universals as usize {
         return false;
@@ -141,9 +118,8 @@ fn clause_fits(clause: &[i16], kinds: &[u8], highest: u8) -> bool
         return false;
     }
     let mut previous: u16 = 0;
-    let mut i = 0;
-    while i < clause.len() {
-        let variable = literal::variable_of(clause[i]);
+    for literal in clause {
+        let variable = literal::variable_of(*literal);
         if variable <= previous {
             return false;
         }
@@ -155,12 +131,12 @@ fn clause_fits(clause: &[i16], kinds: &[u8], highest: u8) -> bool
             return false;
         }
         previous = variable;
-        i += 1;
     }
     true
 }
 
 // A formula clause is over declared variables only.
+#[tactic(auto, using(std::proofs::lemmas::Bool::Decides::nat_tests))]
 fn highest_kind(place: usize, formula: usize) -> u8
     ensures { result ≡ cond (ltb place formula) 2 3 }
 {
@@ -186,9 +162,8 @@ fn clauses_fit(
     let total = count as usize;
     let mut start: usize = 0;
     let mut lowest: u32 = 0;
-    let mut i = 0;
-    while i < ends.len() {
-        let end = ends[i] as usize;
+    for (i, end) in ends.iter().enumerate() {
+        let end = *end as usize;
         if end < start {
             return false;
         }
@@ -199,8 +174,7 @@ fn clauses_fit(
         if !clause_fits(&literals[start..end], kinds, highest) {
             return false;
         }
-        i += 1;
-        lowest = adding::lowest_after(lowest, i as u32, end - start);
+        lowest = adding::lowest_after(lowest, i as u32 + 1, end - start);
         start = end;
     }
     if start != total {
@@ -209,81 +183,88 @@ fn clauses_fit(
     empty == lowest
 }
 
-// All entries between the counts and the tables' sizes are 0.
-fn rest_zero(literals: &[i16], ends: &[u16], sets: &[u64], kinds: &[u8], state: State) -> bool
-    requires { (long (tables_of literals.now ends.now sets.now kinds.now) ≡ true) × (counts_fit state ≡ true) }
-    ensures { result ≡ rest_zero (tables_of literals.now ends.now sets.now kinds.now) state }
-{
-    let clauses = state.clauses;
-    let variables = state.variables;
-    let literal_count = state.literals as usize;
-    let clause_count = clauses.0 as usize;
-    let variable_count = variables.0 as usize;
-    if !zero::zero_literals(&literals[literal_count..LITERAL_LIMIT]) {
-        return false;
+impl Lent<'_> {
+    // No table is lent too short.
+    #[tactic(auto, using(std::proofs::lemmas::Bool::Decides::nat_tests, crate::proofs::Laws::Lent::word_tests), unfolding(crate::specs::WellFormed::long, crate::specs::WellFormed::every))]
+    pub fn is_long(&self) -> bool
+        ensures { result ≡ long (tables_lent self.now) }
+    {
+        if self.literals.len() < LITERAL_LIMIT {
+            return false;
+        }
+        if self.ends.len() < CLAUSE_LIMIT {
+            return false;
+        }
+        if self.sets.len() < sets::TABLE_WORDS {
+            return false;
+        }
+        self.kinds.len() >= VARIABLE_LIMIT
     }
-    if !zero::zero_ends(&ends[clause_count..CLAUSE_LIMIT]) {
-        return false;
-    }
-    let word_count = 4 * variable_count;
-    if !zero::zero_sets(&sets[word_count..sets::TABLE_WORDS]) {
-        return false;
-    }
-    zero::zero_kinds(&kinds[variable_count..VARIABLE_LIMIT])
-}
 
-// Tables that are long enough are well formed.
-pub fn well_formed(literals: &[i16], ends: &[u16], sets: &[u64], kinds: &[u8], state: State) -> bool
-    requires { long (tables_of literals.now ends.now sets.now kinds.now) ≡ true }
-    ensures { result ≡ well_formed (tables_of literals.now ends.now sets.now kinds.now) state }
-{
-    if !counts_fit(state) {
-        return false;
+    // All entries between the counts and the tables' sizes are 0.
+    fn is_rest_zero(&self) -> bool
+        requires { (long (tables_lent self.now) ≡ true) × (counts_fit self.now.state ≡ true) }
+        ensures { result ≡ rest_zero (tables_lent self.now) self.now.state }
+    {
+        let literals = self.state.literals as usize;
+        let clauses = self.state.clauses.0 as usize;
+        let variables = self.state.variables.0 as usize;
+        let words = 4 * variables;
+        if !zero::all_are(&self.literals[literals..LITERAL_LIMIT], &0) {
+            return false;
+        }
+        if !zero::all_are(&self.ends[clauses..CLAUSE_LIMIT], &0) {
+            return false;
+        }
+        if !zero::all_are(&self.sets[words..sets::TABLE_WORDS], &0) {
+            return false;
+        }
+        zero::all_are(&self.kinds[variables..VARIABLE_LIMIT], &0)
     }
-    let bound = state.bound;
-    let variables = state.variables;
-    let formula = state.formula;
-    let clauses = state.clauses;
-    let empty = state.empty;
-    let clause_count = clauses.0 as usize;
-    let variable_count = variables.0 as usize;
-    let word_count = 4 * variable_count;
-    if !clauses_fit(
-        literals,
-        &ends[..clause_count],
-        &kinds[..variable_count],
-        formula.0 as usize,
-        state.literals,
-        empty.0,
-    ) {
-        return false;
-    }
-    if !variables_fit(
-        &kinds[..variable_count],
-        &sets[..word_count],
-        bound.0 as usize,
-        state.universals,
-    ) {
-        return false;
-    }
-    rest_zero(literals, ends, sets, kinds, state)
-}
 
-// The number of the refusal that comes before all others, 1 or 2; 0 if there is none.
-pub fn first_refusal(
-    literals: &[i16],
-    ends: &[u16],
-    sets: &[u64],
-    kinds: &[u8],
-    state: State,
-) -> u16
-    ensures { result ≡ unusable_number (tables_of literals.now ends.now sets.now kinds.now) state }
-{
-    if !long_enough(literals, ends, sets, kinds) {
-        return refusal::TABLE_TOO_SHORT;
+    // Tables that are long enough are well formed.
+    pub fn is_well_formed(&self) -> bool
+        requires { long (tables_lent self.now) ≡ true }
+        ensures { result ≡ well_formed (tables_lent self.now) self.now.state }
+    {
+        let state = self.state;
+        if !counts_fit(state) {
+            return false;
+        }
+        let clauses = state.clauses.0 as usize;
+        let variables = state.variables.0 as usize;
+        let words = 4 * variables;
+        if !clauses_fit(
+            self.literals,
+            &self.ends[..clauses],
+            &self.kinds[..variables],
+            state.formula.0 as usize,
+            state.literals,
+            state.empty.0,
+        ) {
+            return false;
+        }
+        if !variables_fit(
+            &self.kinds[..variables],
+            &self.sets[..words],
+            state.bound.0 as usize,
+            state.universals,
+        ) {
+            return false;
+        }
+        self.is_rest_zero()
     }
-    if !well_formed(literals, ends, sets, kinds, state) {
-        return refusal::NOT_WELL_FORMED;
+
+    // The refusals that come before all others, 1 and 2.
+    pub fn usable(&self) -> Result<(), Refusal>
+        ensures { refusal_in result ≡ unusable (tables_lent self.now) self.now.state }
+    {
+        if !self.is_long() {
+            return Err(Refusal::TableTooShort);
+        }
+        if !self.is_well_formed() {
+            return Err(Refusal::NotWellFormed);
+        }
+        Ok(())
     }
-    0
 }

@@ -1,116 +1,45 @@
-// Zeros: the test that entries are 0, and the clearing of the stated sizes. Each is written once for each type of entry.
-// Every entry is looked at, so that several can be tested at once.
-ghost use Rattle.std.specs.Prelude.{◌≡◌, true, [], ◌≤◌, pos, length};
-ghost use Rattle.tables.specs.Tables.{tables_of};
-ghost use Rattle.tables.specs.Spread.{over, spread, blank};
-ghost use Rattle.tables.specs.WellFormed.{all_of, is_zero, is_zero_literal, long};
+// Zeros: the test of entries, and the clearing of the stated sizes.
+ghost use Rattle.std.specs.Prelude.{◌≡◌, true, [], ◌≤◌, length};
+ghost use Rattle.tables.specs.Spread.{over, spread, blank, zero_state};
+ghost use Rattle.tables.specs.WellFormed.{all_of, long};
+ghost use Rattle.tables.specs.Lent.{tables_held, SameLoans};
 
+use super::{LentMut, State};
 use dqbf::limits::{CLAUSE_LIMIT, LITERAL_LIMIT, VARIABLE_LIMIT};
 
-pub fn zero_literals(literals: &[i16]) -> bool
-    ensures { result ≡ all_of is_zero_literal literals.now }
+// Whether all entries have a value. Every entry is looked at, so that several can be compared at once.
+pub fn all_are<T: PartialEq>(entries: &[T], value: &T) -> bool
+    ensures { result ≡ all_of (λ entry. T.eq entry value.now) entries.now }
 {
-    let mut i = 0;
-    let mut zero = true;
-    while i < literals.len() {
-        let literal = literals[i];
-        zero = zero & (literal == 0);
-        i += 1;
+    let mut same = true;
+    for entry in entries {
+        same = same & (*entry == *value);
     }
-    zero
+    same
 }
 
-pub fn zero_ends(entries: &[u16]) -> bool
-    ensures { result ≡ all_of is_zero entries.now }
+// The front of a table becomes one value.
+fn fill_front<T: Clone + Drop>(entries: &mut [T], size: usize, value: T)
+    requires room { size ≤ length entries.old }
+    requires infallible { T.is_infallible value }
+    requires same { (y : T) → T.is_clone value y → y ≡ value }
+    ensures { entries.new ≡ over size value [] entries.old }
 {
-    let mut i = 0;
-    let mut zero = true;
-    while i < entries.len() {
-        let entry = entries[i];
-        zero = zero & (entry == 0);
-        i += 1;
-    }
-    zero
+    entries[..size].fill(value);
 }
 
-pub fn zero_sets(entries: &[u64]) -> bool
-    ensures { result ≡ all_of is_zero entries.now }
-{
-    let mut i = 0;
-    let mut zero = true;
-    while i < entries.len() {
-        let entry = entries[i];
-        zero = zero & (entry == 0);
-        i += 1;
+impl LentMut<'_> {
+    // The stated sizes of all four tables become 0, and the state, as a refused formula leaves them.
+    pub fn clear(&mut self)
+        requires { long (tables_held self.old) ≡ true }
+        ensures loans { SameLoans self.old self.new }
+        ensures tables { tables_held self.new ≡ spread blank (tables_held self.old) }
+        ensures state { self.new.state ≡ zero_state }
+    {
+        fill_front(self.literals, LITERAL_LIMIT, 0);
+        fill_front(self.ends, CLAUSE_LIMIT, 0);
+        fill_front(self.sets, sets::TABLE_WORDS, 0);
+        fill_front(self.kinds, VARIABLE_LIMIT, 0);
+        self.state = State::default();
     }
-    zero
-}
-
-pub fn zero_kinds(entries: &[u8]) -> bool
-    ensures { result ≡ all_of is_zero entries.now }
-{
-    let mut i = 0;
-    let mut zero = true;
-    while i < entries.len() {
-        let entry = entries[i];
-        zero = zero & (entry == 0);
-        i += 1;
-    }
-    zero
-}
-
-fn clear_literals(entries: &mut [i16], size: usize)
-    requires { size ≤ length entries.old }
-    ensures { entries.new ≡ over size (pos 0) [] entries.old }
-{
-    let mut i = 0;
-    while i < size {
-        entries[i] = 0;
-        i += 1;
-    }
-}
-
-fn clear_ends(entries: &mut [u16], size: usize)
-    requires { size ≤ length entries.old }
-    ensures { entries.new ≡ over size 0 [] entries.old }
-{
-    let mut i = 0;
-    while i < size {
-        entries[i] = 0;
-        i += 1;
-    }
-}
-
-fn clear_sets(entries: &mut [u64], size: usize)
-    requires { size ≤ length entries.old }
-    ensures { entries.new ≡ over size 0 [] entries.old }
-{
-    let mut i = 0;
-    while i < size {
-        entries[i] = 0;
-        i += 1;
-    }
-}
-
-fn clear_kinds(entries: &mut [u8], size: usize)
-    requires { size ≤ length entries.old }
-    ensures { entries.new ≡ over size 0 [] entries.old }
-{
-    let mut i = 0;
-    while i < size {
-        entries[i] = 0;
-        i += 1;
-    }
-}
-
-// The stated sizes of all four tables become 0, as a refused formula leaves them.
-pub fn clear(literals: &mut [i16], ends: &mut [u16], sets: &mut [u64], kinds: &mut [u8])
-    requires { long (tables_of literals.old ends.old sets.old kinds.old) ≡ true }
-    ensures { tables_of literals.new ends.new sets.new kinds.new
-        ≡ spread blank (tables_of literals.old ends.old sets.old kinds.old) }
-{
-    clear_literals(literals, LITERAL_LIMIT);
-    clear_ends(ends, CLAUSE_LIMIT);
-    clear_sets(sets, sets::TABLE_WORDS);
-    clear_kinds(kinds, VARIABLE_LIMIT);
 }

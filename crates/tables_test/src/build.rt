@@ -1,169 +1,111 @@
 // Tables that are well formed, and one change to them.
 use std::io;
-use tables::{ClauseNumber, State, StepNumber, VariableNumber, formed};
+use tables::{ClauseNumber, Lent, LentMut, State, StepNumber, VariableNumber};
 
 // A label and a number on a line.
 pub fn line(rt: &impl Print, label: &str, number: u64) -> io::Result<()> {
     println!(rt; "{label} {number}")
 }
 
-// The state of the sample, with V, variables in use, universals, formula clauses, clauses, literals, accepted steps and lowest empty clause.
-pub fn counts(
-    bound: u32,
-    variables: u32,
-    universals: u16,
-    formula: u32,
-    clauses: u32,
-    literals: u16,
-    steps: u32,
-    empty: u32,
-) -> State {
-    State {
-        bound: VariableNumber(bound),
-        variables: VariableNumber(variables),
-        universals,
-        formula: ClauseNumber(formula),
-        clauses: ClauseNumber(clauses),
-        literals,
-        steps: StepNumber(steps),
-        empty: ClauseNumber(empty),
+// The number of the refusal of lent tables; 0: well formed.
+pub fn judged(rt: &impl Print, label: &str, tables: &Lent) -> io::Result<()> {
+    let number = match tables.usable() {
+        Ok(()) => 0,
+        Err(refusal) => refusal.number(),
+    };
+    line(rt, label, u64::from(number))
+}
+
+// Tables longer than the stated sizes, with their state.
+#[derive(Drop)]
+pub struct Sample {
+    pub literals: [i16; 8200],
+    pub ends: [u16; 2056],
+    pub sets: [u64; 2083],
+    pub kinds: [u8; 520],
+    pub state: State,
+}
+
+impl Sample {
+    // Zero tables with a state.
+    pub fn zero(state: State) -> Sample {
+        Sample {
+            literals: [0; 8200],
+            ends: [0; 2056],
+            sets: [0; 2083],
+            kinds: [0; 520],
+            state,
+        }
+    }
+
+    // Universals 1 and 2; 3 and 4 existential with the sets {1} and {2}; 5 undeclared; 6 a fork variable with the empty set.
+    // Formula clauses {1, 4} and {2, -3}; then {4, -6}, {1}, the empty clause and {6}. The last entry of each table is marked.
+    pub fn marked() -> Sample {
+        let mut sample = Sample::zero(sample_state());
+        sample.literals[..8].copy_from_slice(&[1, 4, 2, -3, 4, -6, 1, 6]);
+        sample.literals[8199] = 7;
+        sample.ends[..6].copy_from_slice(&[2, 4, 6, 7, 7, 8]);
+        sample.ends[2055] = 7;
+        sample.sets[..13].copy_from_slice(&[1, 0, 0, 0, 2, 0, 0, 0, 1, 0, 0, 0, 2]);
+        sample.sets[2082] = 7;
+        sample.kinds[..6].copy_from_slice(&[1, 1, 2, 2, 0, 3]);
+        sample.kinds[519] = 7;
+        sample
+    }
+
+    pub fn lent(&self) -> Lent<'_> {
+        Lent {
+            literals: &self.literals,
+            ends: &self.ends,
+            sets: &self.sets,
+            kinds: &self.kinds,
+            state: self.state,
+        }
+    }
+
+    pub fn lent_mut(&mut self) -> LentMut<'_> {
+        let Sample {
+            literals,
+            ends,
+            sets,
+            kinds,
+            state,
+        } = self;
+        LentMut {
+            literals,
+            ends,
+            sets,
+            kinds,
+            state: *state,
+        }
     }
 }
 
 pub fn sample_state() -> State {
-    counts(5, 6, 2, 2, 6, 8, 3, 5)
-}
-
-// Universals 1 and 2; 3 and 4 existential with the sets {1} and {2}; 5 undeclared; 6 a fork variable with the empty set.
-// Formula clauses {1, 4} and {2, -3}; then {4, -6}, {1}, the empty clause and {6}.
-pub fn sample(
-    literals: &mut [i16; 8200],
-    ends: &mut [u16; 2056],
-    sets: &mut [u64; 2083],
-    kinds: &mut [u8; 520],
-) {
-    literals[0] = 1;
-    literals[1] = 4;
-    literals[2] = 2;
-    literals[3] = -3;
-    literals[4] = 4;
-    literals[5] = -6;
-    literals[6] = 1;
-    literals[7] = 6;
-    literals[8199] = 7;
-    ends[0] = 2;
-    ends[1] = 4;
-    ends[2] = 6;
-    ends[3] = 7;
-    ends[4] = 7;
-    ends[5] = 8;
-    ends[2055] = 7;
-    sets[0] = 1;
-    sets[4] = 2;
-    sets[8] = 1;
-    sets[12] = 2;
-    sets[2082] = 7;
-    kinds[0] = 1;
-    kinds[1] = 1;
-    kinds[2] = 2;
-    kinds[3] = 2;
-    kinds[5] = 3;
-    kinds[519] = 7;
-}
-
-pub fn judged(
-    rt: &impl Print,
-    label: &str,
-    literals: &[i16; 8200],
-    ends: &[u16; 2056],
-    sets: &[u64; 2083],
-    kinds: &[u8; 520],
-    state: State,
-) -> io::Result<()> {
-    let number = formed::first_refusal(literals, ends, sets, kinds, state);
-    line(rt, label, number as u64)
-}
-
-// One entry of each table, two of the literals and of the words of the sets.
-#[derive(Drop)]
-pub struct Change {
-    pub literal_place: usize,
-    pub literal: i16,
-    pub next_literal: i16,
-    pub end_place: usize,
-    pub end: u16,
-    pub set_place: usize,
-    pub set: u64,
-    pub other_place: usize,
-    pub other: u64,
-    pub kind_place: usize,
-    pub kind: u8,
-}
-
-// The marks as they are.
-fn unchanged() -> Change {
-    Change {
-        literal_place: 8198,
-        literal: 0,
-        next_literal: 7,
-        end_place: 2055,
-        end: 7,
-        set_place: 2082,
-        set: 7,
-        other_place: 2082,
-        other: 7,
-        kind_place: 519,
-        kind: 7,
+    State {
+        bound: VariableNumber(5),
+        variables: VariableNumber(6),
+        universals: 2,
+        formula: ClauseNumber(2),
+        clauses: ClauseNumber(6),
+        literals: 8,
+        steps: StepNumber(3),
+        empty: ClauseNumber(5),
     }
 }
 
-fn change_literals(literals: &mut [i16; 8200], place: usize, literal: i16, next: i16) {
-    if place < 8199 {
-        literals[place] = literal;
-        literals[place + 1] = next;
-    }
+// Zero tables with a state.
+pub fn with_zeros(rt: &impl Print, label: &str, state: State) -> io::Result<()> {
+    judged(rt, label, &Sample::zero(state).lent())
 }
 
-fn change_end(ends: &mut [u16; 2056], place: usize, end: u16) {
-    if place < 2056 {
-        ends[place] = end;
-    }
-}
-
-fn change_set(sets: &mut [u64; 2083], place: usize, set: u64) {
-    if place < 2083 {
-        sets[place] = set;
-    }
-}
-
-fn change_kind(kinds: &mut [u8; 520], place: usize, kind: u8) {
-    if place < 520 {
-        kinds[place] = kind;
-    }
-}
-
-// The sample with a change and a state.
-fn changed(rt: &impl Print, label: &str, change: Change, state: State) -> io::Result<()> {
-    let mut literals = [0i16; 8200];
-    let mut ends = [0u16; 2056];
-    let mut sets = [0u64; 2083];
-    let mut kinds = [0u8; 520];
-    sample(&mut literals, &mut ends, &mut sets, &mut kinds);
-    change_literals(
-        &mut literals,
-        change.literal_place,
-        change.literal,
-        change.next_literal,
-    );
-    change_end(&mut ends, change.end_place, change.end);
-    change_set(&mut sets, change.set_place, change.set);
-    change_set(&mut sets, change.other_place, change.other);
-    change_kind(&mut kinds, change.kind_place, change.kind);
-    judged(rt, label, &literals, &ends, &sets, &kinds, state)
-}
-
+// The sample with a state.
 pub fn with_state(rt: &impl Print, label: &str, state: State) -> io::Result<()> {
-    changed(rt, label, unchanged(), state)
+    let sample = Sample {
+        state,
+        ..Sample::marked()
+    };
+    judged(rt, label, &sample.lent())
 }
 
 // Two neighbouring literals.
@@ -174,18 +116,20 @@ pub fn with_literals(
     literal: i16,
     next: i16,
 ) -> io::Result<()> {
-    let mut change = unchanged();
-    change.literal_place = place;
-    change.literal = literal;
-    change.next_literal = next;
-    changed(rt, label, change, sample_state())
+    let mut sample = Sample::marked();
+    if place < 8199 {
+        sample.literals[place] = literal;
+        sample.literals[place + 1] = next;
+    }
+    judged(rt, label, &sample.lent())
 }
 
 pub fn with_end(rt: &impl Print, label: &str, place: usize, end: u16) -> io::Result<()> {
-    let mut change = unchanged();
-    change.end_place = place;
-    change.end = end;
-    changed(rt, label, change, sample_state())
+    let mut sample = Sample::marked();
+    if let Some(entry) = sample.ends.get_mut(place) {
+        *entry = end;
+    }
+    judged(rt, label, &sample.lent())
 }
 
 pub fn with_sets(
@@ -196,39 +140,20 @@ pub fn with_sets(
     other_place: usize,
     other: u64,
 ) -> io::Result<()> {
-    let mut change = unchanged();
-    change.set_place = place;
-    change.set = set;
-    change.other_place = other_place;
-    change.other = other;
-    changed(rt, label, change, sample_state())
+    let mut sample = Sample::marked();
+    if let Some(entry) = sample.sets.get_mut(place) {
+        *entry = set;
+    }
+    if let Some(entry) = sample.sets.get_mut(other_place) {
+        *entry = other;
+    }
+    judged(rt, label, &sample.lent())
 }
 
 pub fn with_kind(rt: &impl Print, label: &str, place: usize, kind: u8) -> io::Result<()> {
-    let mut change = unchanged();
-    change.kind_place = place;
-    change.kind = kind;
-    changed(rt, label, change, sample_state())
-}
-
-// Zero tables with a state.
-pub fn with_zeros(rt: &impl Print, label: &str, state: State) -> io::Result<()> {
-    let literals = [0i16; 8200];
-    let ends = [0u16; 2056];
-    let sets = [0u64; 2083];
-    let kinds = [0u8; 520];
-    judged(rt, label, &literals, &ends, &sets, &kinds, state)
-}
-
-// Zero tables of stated lengths with a zero state.
-pub fn blank(
-    rt: &impl Print,
-    label: &str,
-    literals: &[i16],
-    ends: &[u16],
-    sets: &[u64],
-    kinds: &[u8],
-) -> io::Result<()> {
-    let number = formed::first_refusal(literals, ends, sets, kinds, counts(0, 0, 0, 0, 0, 0, 0, 0));
-    line(rt, label, number as u64)
+    let mut sample = Sample::marked();
+    if let Some(entry) = sample.kinds.get_mut(place) {
+        *entry = kind;
+    }
+    judged(rt, label, &sample.lent())
 }

@@ -1,98 +1,111 @@
 // The cases: a label, and what is changed.
-use super::{build, fill};
+use super::build::{self, Sample};
+use super::fill;
 use std::io;
-
-fn exact_lengths(rt: &impl Print) -> io::Result<()> {
-    let literals = [0i16; 8192];
-    let ends = [0u16; 2048];
-    let sets = [0u64; 2048];
-    let kinds = [0u8; 512];
-    build::blank(rt, "lengths as stated", &literals, &ends, &sets, &kinds)
-}
-
-fn short_literals(rt: &impl Print) -> io::Result<()> {
-    let literals = [0i16; 8191];
-    let ends = [0u16; 2048];
-    let sets = [0u64; 2048];
-    let kinds = [0u8; 512];
-    build::blank(rt, "8191 literals", &literals, &ends, &sets, &kinds)
-}
-
-fn short_ends(rt: &impl Print) -> io::Result<()> {
-    let literals = [0i16; 8192];
-    let ends = [0u16; 2047];
-    let sets = [0u64; 2048];
-    let kinds = [0u8; 512];
-    build::blank(rt, "2047 ends", &literals, &ends, &sets, &kinds)
-}
-
-fn short_sets(rt: &impl Print) -> io::Result<()> {
-    let literals = [0i16; 8192];
-    let ends = [0u16; 2048];
-    let sets = [0u64; 2047];
-    let kinds = [0u8; 512];
-    build::blank(rt, "2047 words of sets", &literals, &ends, &sets, &kinds)
-}
-
-fn short_kinds(rt: &impl Print) -> io::Result<()> {
-    let literals = [0i16; 8192];
-    let ends = [0u16; 2048];
-    let sets = [0u64; 2048];
-    let kinds = [0u8; 511];
-    build::blank(rt, "511 kinds", &literals, &ends, &sets, &kinds)
-}
+use tables::{ClauseNumber, Lent, State, StepNumber, VariableNumber, kind};
 
 // A table is lent too short.
 pub fn lengths(rt: &impl Print) -> io::Result<()> {
-    exact_lengths(rt)?;
-    short_literals(rt)?;
-    short_ends(rt)?;
-    short_sets(rt)?;
-    short_kinds(rt)?;
+    let literals = [0; 8192];
+    let ends = [0; 2048];
+    let sets = [0; 2048];
+    let kinds = [0; 512];
+    let stated = Lent {
+        literals: &literals,
+        ends: &ends,
+        sets: &sets,
+        kinds: &kinds,
+        state: State::default(),
+    };
+    build::judged(rt, "lengths as stated", &stated)?;
+    let literals = &literals[..8191];
+    build::judged(rt, "8191 literals", &Lent { literals, ..stated })?;
+    let ends = &ends[..2047];
+    build::judged(rt, "2047 ends", &Lent { ends, ..stated })?;
+    let sets = &sets[..2047];
+    build::judged(rt, "2047 words of sets", &Lent { sets, ..stated })?;
+    let kinds = &kinds[..511];
+    build::judged(rt, "511 kinds", &Lent { kinds, ..stated })?;
     build::with_state(rt, "the sample, in longer tables", build::sample_state())
 }
 
-// V, variables in use, universals, formula clauses, clauses, literals, accepted steps, lowest empty clause.
-pub fn counts(rt: &impl Print) -> io::Result<()> {
-    build::with_zeros(
-        rt,
-        "zero tables and state",
-        build::counts(0, 0, 0, 0, 0, 0, 0, 0),
-    )?;
+// V and the variables in use.
+fn variable_counts(rt: &impl Print) -> io::Result<()> {
+    build::with_zeros(rt, "zero tables and state", State::default())?;
     build::with_zeros(
         rt,
         "V 1 with 0 in use",
-        build::counts(1, 0, 0, 0, 0, 0, 0, 0),
+        State {
+            bound: VariableNumber(1),
+            ..State::default()
+        },
     )?;
     build::with_zeros(
         rt,
         "V 512, undeclared",
-        build::counts(512, 512, 0, 0, 0, 0, 0, 0),
+        State {
+            bound: VariableNumber(512),
+            variables: VariableNumber(512),
+            ..State::default()
+        },
     )?;
     build::with_zeros(
         rt,
         "V 513, undeclared",
-        build::counts(513, 513, 0, 0, 0, 0, 0, 0),
-    )?;
+        State {
+            bound: VariableNumber(513),
+            variables: VariableNumber(513),
+            ..State::default()
+        },
+    )
+}
+
+// Formula clauses, clauses and accepted steps.
+fn clause_counts(rt: &impl Print) -> io::Result<()> {
     build::with_zeros(
         rt,
         "2048 empty clauses",
-        build::counts(0, 0, 0, 2048, 2048, 0, 0, 1),
+        State {
+            formula: ClauseNumber(2048),
+            clauses: ClauseNumber(2048),
+            empty: ClauseNumber(1),
+            ..State::default()
+        },
     )?;
     build::with_zeros(
         rt,
         "2049 empty clauses",
-        build::counts(0, 0, 0, 2049, 2049, 0, 0, 1),
+        State {
+            formula: ClauseNumber(2049),
+            clauses: ClauseNumber(2049),
+            empty: ClauseNumber(1),
+            ..State::default()
+        },
     )?;
     build::with_zeros(
         rt,
         "2048 steps that added an empty clause",
-        build::counts(0, 0, 0, 0, 2048, 0, 2048, 1),
-    )?;
+        State {
+            clauses: ClauseNumber(2048),
+            steps: StepNumber(2048),
+            empty: ClauseNumber(1),
+            ..State::default()
+        },
+    )
+}
+
+// Counts of zero tables.
+pub fn counts(rt: &impl Print) -> io::Result<()> {
+    variable_counts(rt)?;
+    clause_counts(rt)?;
     build::with_zeros(
         rt,
         "4294967295 steps and 1 formula clause",
-        build::counts(0, 0, 0, 1, 0, 0, 4294967295, 0),
+        State {
+            formula: ClauseNumber(1),
+            steps: StepNumber(4294967295),
+            ..State::default()
+        },
     )
 }
 
@@ -101,18 +114,35 @@ pub fn sums(rt: &impl Print) -> io::Result<()> {
     build::with_state(
         rt,
         "one universal too many stated",
-        build::counts(5, 6, 3, 2, 6, 8, 3, 5),
+        State {
+            universals: 3,
+            ..build::sample_state()
+        },
     )?;
     build::with_state(
         rt,
         "one step too many",
-        build::counts(5, 6, 2, 2, 6, 8, 4, 5),
+        State {
+            steps: StepNumber(4),
+            ..build::sample_state()
+        },
     )?;
-    build::with_state(rt, "65535 steps", build::counts(5, 6, 2, 2, 6, 8, 65535, 5))?;
+    build::with_state(
+        rt,
+        "65535 steps",
+        State {
+            steps: StepNumber(65535),
+            ..build::sample_state()
+        },
+    )?;
     build::with_state(
         rt,
         "one formula clause for a step",
-        build::counts(5, 6, 2, 3, 6, 8, 2, 5),
+        State {
+            formula: ClauseNumber(3),
+            steps: StepNumber(2),
+            ..build::sample_state()
+        },
     )
 }
 
@@ -122,7 +152,10 @@ pub fn clauses(rt: &impl Print) -> io::Result<()> {
     build::with_state(
         rt,
         "last end below the literal count",
-        build::counts(5, 6, 2, 2, 6, 9, 3, 5),
+        State {
+            literals: 9,
+            ..build::sample_state()
+        },
     )?;
     build::with_literals(rt, "clause {-6, 4}", 4, -6, 4)?;
     build::with_literals(rt, "clause {4, -4}", 4, 4, -4)?;
@@ -136,17 +169,23 @@ pub fn clauses(rt: &impl Print) -> io::Result<()> {
     build::with_state(
         rt,
         "no empty clause stated",
-        build::counts(5, 6, 2, 2, 6, 8, 3, 0),
+        State {
+            empty: ClauseNumber(0),
+            ..build::sample_state()
+        },
     )?;
     build::with_state(
         rt,
         "a later empty clause stated",
-        build::counts(5, 6, 2, 2, 6, 8, 3, 6),
+        State {
+            empty: ClauseNumber(6),
+            ..build::sample_state()
+        },
     )
 }
 
-// Kinds and sets; a set is given by the place of its word.
-pub fn variables(rt: &impl Print) -> io::Result<()> {
+// A set is given by the place of its word.
+fn sets(rt: &impl Print) -> io::Result<()> {
     build::with_sets(rt, "universals' bits the other way round", 0, 2, 4, 1)?;
     build::with_sets(rt, "universals with one bit", 0, 1, 4, 1)?;
     build::with_sets(rt, "a universal with two bits", 0, 3, 4, 2)?;
@@ -176,12 +215,21 @@ pub fn variables(rt: &impl Print) -> io::Result<()> {
         9223372036854775808,
         12,
         2,
-    )?;
+    )
+}
+
+fn kinds(rt: &impl Print) -> io::Result<()> {
     build::with_kind(rt, "kind 4", 4, 4)?;
     build::with_kind(rt, "kind 255", 4, 255)?;
     build::with_kind(rt, "kind 2 for an undeclared variable", 4, 2)?;
     build::with_kind(rt, "kind 3 up to V", 4, 3)?;
     build::with_kind(rt, "kind 2 above V", 5, 2)
+}
+
+// Sets and kinds.
+pub fn variables(rt: &impl Print) -> io::Result<()> {
+    sets(rt)?;
+    kinds(rt)
 }
 
 // Entries between the counts and the stated sizes, and past them.
@@ -205,29 +253,32 @@ pub fn rest(rt: &impl Print) -> io::Result<()> {
 
 // Clauses of at most so many literals, over existentials 1, 2, .. with empty sets.
 fn existentials(rt: &impl Print, label: &str, width: u16, total: u16) -> io::Result<()> {
-    let mut literals = [0i16; 8200];
-    let mut ends = [0u16; 2056];
-    let sets = [0u64; 2083];
-    let mut kinds = [0u8; 520];
-    fill::literals(&mut literals, width, total);
-    let clauses = fill::ends(&mut ends, width, total);
-    fill::kinds(&mut kinds, width, 2);
-    let variables = width as u32;
-    let state = build::counts(variables, variables, 0, clauses, clauses, total, 0, 0);
-    build::judged(rt, label, &literals, &ends, &sets, &kinds, state)
+    let mut sample = Sample::zero(State::default());
+    fill::literals(&mut sample.literals, width, total);
+    let clauses = fill::ends(&mut sample.ends, width, total);
+    fill::kinds(&mut sample.kinds, width, kind::EXISTENTIAL);
+    sample.state = State {
+        bound: VariableNumber(u32::from(width)),
+        variables: VariableNumber(u32::from(width)),
+        formula: ClauseNumber(clauses),
+        clauses: ClauseNumber(clauses),
+        literals: total,
+        ..State::default()
+    };
+    build::judged(rt, label, &sample.lent())
 }
 
 // So many universals, in order of declaration.
 fn universals(rt: &impl Print, label: &str, count: u16) -> io::Result<()> {
-    let literals = [0i16; 8200];
-    let ends = [0u16; 2056];
-    let mut sets = [0u64; 2083];
-    let mut kinds = [0u8; 520];
-    fill::bits(&mut sets, count);
-    fill::kinds(&mut kinds, count, 1);
-    let variables = count as u32;
-    let state = build::counts(variables, variables, count, 0, 0, 0, 0, 0);
-    build::judged(rt, label, &literals, &ends, &sets, &kinds, state)
+    let mut sample = Sample::zero(State {
+        bound: VariableNumber(u32::from(count)),
+        variables: VariableNumber(u32::from(count)),
+        universals: count,
+        ..State::default()
+    });
+    fill::bits(&mut sample.sets, count);
+    fill::kinds(&mut sample.kinds, count, kind::UNIVERSAL);
+    build::judged(rt, label, &sample.lent())
 }
 
 // The borders of width, literal count and universals.

@@ -1,12 +1,14 @@
 -- A text, as the code has read it (dqbf, specs/Reading.antt): what the tables hold behind its last line.
 -- Offers `empty_state`, `start_progress`, `TextRead`.
-use Rattle.std.specs.Prelude.{◌≡◌, ℕ}
+use Rattle.std.specs.Prelude.{◌≡◌, ℕ, Result, Ok, Err}
 use Rattle.dqbf.specs.Reading.{Reader, Loaded, accepted, refused}
+use Rattle.dqbf.specs.Refusal.{refusal_told}
 use Rattle.tables.specs.Tables.{Tables}
 use Rattle.tables.specs.declared.State.{State}
-use Rattle.prefix_lines.specs.Lines.{ReadSoFar, Framed}
+use Rattle.prefix_lines.specs.Lines.{Carried, carried, ReadSoFar, Framed}
+use Rattle.prefix_lines.specs.declared.progress.Phase.TheVariants.{Opening}
 use Rattle.prefix_lines.specs.declared.progress.Progress.{Progress}
-use Rattle.texts.specs.declared.reading.TextAnswer.{TextAnswer}
+use Rattle.texts.specs.declared.reading.LoadRefusal.{LoadRefusal}
 
 -- V variables in use, and nothing else
 abbrev pub empty_state : ℕ → State
@@ -22,11 +24,11 @@ empty_state v = record {
 }
 
 -- before the first line
-abbrev pub start_progress : Progress
-start_progress = record { phase = 0; count = 0; state = empty_state 0 }
+abbrev pub start_progress : Carried
+start_progress = record { phase = Opening; count = 0; state = empty_state 0 }
 
--- The whole text was read, and came to o: the reader at its end, or the line with its number.
-pub record TextRead (t : Tables) (o : Loaded) (a : TextAnswer) (now : Tables) : Type 0 where
-  pub accepts : a.refusal ≡ 0 → (r : Reader) × (o ≡ accepted r.formula) × ReadSoFar t r a.progress now
-  pub refuses : (a.refusal ≡ 0 → ⊥) → o ≡ refused a.line a.refusal
+-- The whole text was read, and came to o: the reader at its end, or the line with its number. The tables `now` have the state s.
+pub record TextRead (t : Tables) (o : Loaded) (a : Result (Unit {0}) LoadRefusal) (s : State) (now : Tables) : Type 0 where
+  pub accepts : a ≡ Ok tt → (r : Reader) × (o ≡ accepted r.formula) × (p : Progress) × ReadSoFar t r (carried p s) now
+  pub refuses : (x : LoadRefusal) → a ≡ Err x → o ≡ refused x.line (refusal_told x.refusal).number
   pub framed : Framed t now

@@ -2,34 +2,26 @@
 #![tactic(auto)]
 
 use api::{
-    CLAUSE_LIMIT, LINE_SIZE, LITERAL_LIMIT, LoadAnswer, State, TABLE_WORDS, TEXT_LIMIT, TIDY_LIMIT,
-    VARIABLE_LIMIT, WriteAnswer,
+    CLAUSE_LIMIT, LINE_SIZE, LITERAL_LIMIT, Lent, LentMut, LoadRefusal, State, TABLE_WORDS,
+    TEXT_LIMIT, TIDY_LIMIT, VARIABLE_LIMIT,
 };
 use lines::line;
 use lines::line::Verdict;
 use std::io;
 
-fn print_refusal(rt: &impl Print, at: u32, number: u32) -> io::Result<()> {
+fn print_refusal(rt: &impl Print, refused: LoadRefusal) -> io::Result<()> {
     let mut out = [0u8; LINE_SIZE];
-    let written = line::write_line(&mut out, Verdict::Formula(at, number));
-    if let line::Written::Bytes(count) = written {
+    let verdict = Verdict::Formula(refused.line, refused.refusal.number() as u32);
+    if let Some(count) = line::write_line(&mut out, verdict) {
         rt.write_all(&out[..count])?;
     }
     Ok(())
 }
 
 // The tables of an accepted load are well formed, and the output is long enough for every text (`LongEnough` of round_trip): a text is always written.
-fn print_text(
-    rt: &impl Print,
-    literals: &[i16],
-    ends: &[u16],
-    sets: &[u64],
-    kinds: &[u8],
-    state: State,
-) -> io::Result<()> {
+fn print_text(rt: &impl Print, tables: &Lent) -> io::Result<()> {
     let mut out = [0u8; TIDY_LIMIT];
-    let written = api::write_formula(&mut out, literals, ends, sets, kinds, state);
-    if let WriteAnswer::Length(count) = written {
+    if let Ok(count) = api::write_formula(&mut out, tables) {
         rt.write_all(&out[..count])?;
     }
     Ok(())
@@ -37,17 +29,17 @@ fn print_text(
 
 // The tidy text of a text, or the line of its refusal, printed.
 fn print_tidy(rt: &impl Print, text: &[u8]) -> io::Result<()> {
-    let mut literals = [0i16; LITERAL_LIMIT];
-    let mut ends = [0u16; CLAUSE_LIMIT];
-    let mut sets = [0u64; TABLE_WORDS];
-    let mut kinds = [0u8; VARIABLE_LIMIT];
-    let loaded = api::load(text, &mut literals, &mut ends, &mut sets, &mut kinds);
-    let state = loaded.state;
-    let answer = loaded.answer;
-    if let LoadAnswer::Refused(at, number) = answer {
-        return print_refusal(rt, at, number);
+    let mut tables = LentMut {
+        literals: &mut [0; LITERAL_LIMIT],
+        ends: &mut [0; CLAUSE_LIMIT],
+        sets: &mut [0; TABLE_WORDS],
+        kinds: &mut [0; VARIABLE_LIMIT],
+        state: State::default(),
+    };
+    match api::load(text, &mut tables) {
+        Ok(()) => print_text(rt, &tables.view()),
+        Err(refused) => print_refusal(rt, refused),
     }
-    print_text(rt, &literals, &ends, &sets, &kinds, state)
 }
 
 // One byte more than the limit, so that the library finds a file that is too long.

@@ -1,11 +1,12 @@
 // Lines of what is answered.
+use api::LoadRefusal;
 use std::io;
 
 // The line and the number of a refused load.
-pub fn refusal(rt: &impl Print, line: u32, number: u32) -> io::Result<()> {
+pub fn refusal(rt: &impl Print, refused: LoadRefusal) -> io::Result<()> {
     rt.write_all(b"formula")?;
-    printed::number(rt, line)?;
-    printed::number(rt, number)?;
+    printed::number(rt, refused.line)?;
+    printed::number(rt, u32::from(refused.refusal.number()))?;
     println!(rt)
 }
 
@@ -15,9 +16,5 @@ pub fn number(rt: &impl Print, value: u64) -> io::Result<()> {
 }
 
 pub fn marks(rt: &impl Print, marked: bool) -> io::Result<()> {
-    if marked {
-        rt.println("marked")
-    } else {
-        rt.println("changed")
-    }
+    rt.println(if marked { "marked" } else { "changed" })
 }

@@ -8,29 +8,14 @@ ghost use Rattle.tokens.specs.Working.{length_before, leading, Cut};
 fn length_before(bytes: &[u8], b: u8) -> usize
     ensures { result ≡ length_before b bytes.now }
 {
-    let mut i = 0;
-    while i < bytes.len() {
-        if bytes[i] == b {
-            return i;
-        }
-        i += 1;
-    }
-    i
+    bytes.iter().position(|x| *x == b).unwrap_or(bytes.len())
 }
 
-// Whether the byte b is one of the n from i on: each is looked at, so that the processor compares them at once.
-fn block_has(bytes: &[u8], i: usize, n: usize, b: u8) -> bool
-    requires { i + n ≤ length bytes.now }
-    ensures { result ≡ ltb (length_before b (drop i bytes.now)) n }
+// Whether a block has the byte b: each byte is looked at, so that the processor compares them at once.
+fn block_has(block: &[u8], b: u8) -> bool
+    ensures { result ≡ ltb (length_before b block.now) (length block.now) }
 {
-    let mut found = false;
-    let mut k = 0;
-    while k < n {
-        let at = i + k;
-        found = found | (bytes[at] == b);
-        k += 1;
-    }
-    found
+    block.iter().fold(false, |found, x| found | (*x == b))
 }
 
 // How many bytes stand in the blocks of sixteen before the first one that has the byte b.
@@ -38,14 +23,14 @@ fn blocks_before(bytes: &[u8], b: u8) -> usize
     ensures { (result ≤ length bytes.now) × (length_before b bytes.now ≡ result + length_before b (drop result bytes.now))
         × (result + 16 ≤ length bytes.now → length_before b (drop result bytes.now) < 16) }
 {
-    let mut i = 0;
-    while bytes.len() - i >= 16 {
-        if block_has(bytes, i, 16, b) {
-            return i;
+    let mut before = 0;
+    for block in bytes.chunks_exact(16) {
+        if block_has(block, b) {
+            return before;
         }
-        i += 16;
+        before += block.len();
     }
-    i
+    before
 }
 
 // Where the half begins, of the 2 * n bytes from i on, that has the first byte b.
@@ -53,10 +38,11 @@ fn half_with(bytes: &[u8], i: usize, n: usize, b: u8) -> usize
     requires { (i + n ≤ length bytes.now) × (length_before b (drop i bytes.now) < 2 * n) }
     ensures { (result ≤ i + n) × (i + length_before b (drop i bytes.now) ≡ result + length_before b (drop result bytes.now)) × (length_before b (drop result bytes.now) < n) }
 {
-    if block_has(bytes, i, n, b) {
-        return i;
+    if block_has(&bytes[i..i + n], b) {
+        i
+    } else {
+        i + n
     }
-    i + n
 }
 
 // Where the first byte b stands, which is one of the sixteen from i on. Halves are chosen and nothing is branched on: the processor could not guess the outcomes.
@@ -74,29 +60,23 @@ fn place_in_block(bytes: &[u8], i: usize, b: u8) -> usize
 pub fn line_length(text: &[u8]) -> usize
     ensures { result ≡ line_length text.now }
 {
-    let passed = blocks_before(text, 10);
+    let passed = blocks_before(text, b'\n');
     if text.len() - passed < 16 {
-        return passed + length_before(&text[passed..], 10);
+        passed + length_before(&text[passed..], b'\n')
+    } else {
+        place_in_block(text, passed, b'\n')
     }
-    place_in_block(text, passed, 10)
 }
 
 // How many spaces lead.
 fn leading_spaces(bytes: &[u8]) -> usize
     ensures { result ≡ leading space bytes.now }
 {
-    let mut i = 0;
-    while i < bytes.len() {
-        if bytes[i] != 32 {
-            return i;
-        }
-        i += 1;
-    }
-    i
+    bytes.iter().position(|x| *x != b' ').unwrap_or(bytes.len())
 }
 
 // Where a token stands: from, and up to.
-#[derive(Drop)]
+#[derive(Clone, Copy)]
 pub struct Token {
     pub from: usize,
     pub to: usize,
@@ -108,6 +88,6 @@ pub fn next_token(line: &[u8], i: usize) -> Token
     ensures { Cut line.now i result }
 {
     let from = i + leading_spaces(&line[i..]);
-    let to = from + length_before(&line[from..], 32);
-    Token { from: from, to: to }
+    let to = from + length_before(&line[from..], b' ');
+    Token { from, to }
 }

@@ -6,6 +6,7 @@ ghost use Rattle.exports.specs.Calls.{After, load_whole};
 use codec::state as state_codec;
 use dqbf::limits::{CLAUSE_LIMIT, LITERAL_LIMIT};
 use sets::TABLE_WORDS;
+use tables::{LentMut, State};
 
 // A load into buffers that are long enough. It reads none of their entries, so that nothing is decoded.
 pub fn load_whole(
@@ -27,16 +28,16 @@ pub fn load_whole(
     let mut literal_table = [0i16; LITERAL_LIMIT];
     let mut end_table = [0u16; CLAUSE_LIMIT];
     let mut set_table = [0u64; TABLE_WORDS];
-    let loaded = dqdimacs::load(
-        text,
-        &mut literal_table,
-        &mut end_table,
-        &mut set_table,
+    let mut tables = LentMut {
+        literals: &mut literal_table,
+        ends: &mut end_table,
+        sets: &mut set_table,
         kinds,
-    );
+        state: State::default(),
+    };
+    let answer = dqdimacs::load(text, &mut tables);
+    let after = tables.state;
     buffers::write_tables(literals, ends, sets, &literal_table, &end_table, &set_table);
-    let after = loaded.state;
     state_codec::write_state(state, after);
-    let answer = loaded.answer;
     results::of_load(answer)
 }

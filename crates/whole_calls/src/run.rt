@@ -7,8 +7,10 @@ use codec::state as state_codec;
 use dqbf::limits::{CLAUSE_LIMIT, LITERAL_LIMIT};
 use sets::TABLE_WORDS;
 use steps::run;
+use tables::LentMut;
 
 // A run over buffers that are long enough.
+#[tactic(auto, unfolding(exports::specs::Calls::ran, buffers::specs::Buffers::written, buffers::specs::Buffers::tables_in, buffers::specs::Buffers::state_in))]
 pub fn run_whole(
     records: &[u8],
     literals: &mut [u8],
@@ -37,17 +39,16 @@ pub fn run_whole(
         sets,
     );
     let before = state_codec::read_state(state);
-    let ran = run::run(
-        records,
-        &mut literal_table,
-        &mut end_table,
-        &mut set_table,
+    let mut tables = LentMut {
+        literals: &mut literal_table,
+        ends: &mut end_table,
+        sets: &mut set_table,
         kinds,
-        before,
-    );
+        state: before,
+    };
+    let answer = run::run(records, &mut tables);
+    let after = tables.state;
     buffers::write_tables(literals, ends, sets, &literal_table, &end_table, &set_table);
-    let after = ran.state;
     state_codec::write_state(state, after);
-    let answer = ran.answer;
     results::of_run(answer)
 }

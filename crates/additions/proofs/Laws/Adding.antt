@@ -1,14 +1,12 @@
 -- What a step leaves of tables that hold a model (specs/Adding.antt): one law for a refusal, one for each addition, one for each outcome of `fitted` and `tested`.
 use mathlib.Core.Path.{◌≡◌, refl, sym, ◌∙◌, ap}
-use mathlib.Core.Logic.{◌≢◌}
 use mathlib.Core.Bool.{Bool, true, false, cond}
 use mathlib.Core.List.{List, [], ◌∷◌, ◌++◌, append_assoc}
-use mathlib.Core.Option.{none, some}
+use mathlib.Core.Option.{Option, none, some}
 use native.Mathlib.Nat.{add-zero}
 use Prim.Native.Nat.{ℕ, suc, ◌+◌, ◌-◌, ◌≤◌, ◌<◌}
 use native.Mathlib.Omega.{arith}
-use borrow.Author.Tests.{eq-eqb, ne_eqb, lt-ltb, le-ltb}
-use lib.Dec.{eqb, ltb}
+use lib.Dec.{ltb}
 use lib.IntN.{ℤ, pos, negsuc, neg_ℤ, nat_abs}
 use mir.Syntax.{w16}
 use mir.Val.{SFits, to_z}
@@ -19,9 +17,7 @@ use lib.Seq.{length-take-le, drop-append-le}
 use borrow.Rule.Slice.PartMut.{put_mid, put_same}
 use Rattle.tables.proofs.Laws.Rows.{stored-stored, stored-tail}
 use Rattle.dqbf.specs.Limits.{tables, width_limit, clause_limit, literal_limit, variable_limit}
-use Rattle.dqbf.specs.Refusal.{Refusal, refusal, naming, refusal_told}
-use Rattle.dqbf.specs.declared.refusal.Refusal as Code
-use Rattle.dqbf.specs.declared.refusal.Refusal.TheVariants.{Plain, Naming}
+use Rattle.dqbf.specs.Refusal.{Refusal, refusal, naming}
 use Rattle.dqbf.specs.Literal.{Clause, clashes, lowest_clash, total}
 use Rattle.dqbf.specs.Set.{Set}
 use Rattle.dqbf.specs.Model.{Model}
@@ -41,10 +37,11 @@ use Rattle.tables.proofs.Laws.Formed.{long-is, formed-is}
 use Rattle.dqbf.proofs.Laws.Tests.{ltb_no}
 use Rattle.joins.specs.Joining.{overlaid}
 use Rattle.joins.proofs.Laws.Overlays.{overlaid-fits}
-use Rattle.additions.specs.Examined.{step_told, AfterStep, examined}
-use Rattle.additions.specs.Adding.{Holding, After, refused_by, One, Two, fitted, tested, refusal_number, refusal_for}
-use Rattle.additions.specs.declared.Stepped.{Stepped}
-use Rattle.additions.specs.declared.StepAnswer.TheVariants.{Accepted, Refused}
+use Rattle.std.specs.Prelude as Code
+use Rattle.std.specs.Prelude.{is_some}
+use Rattle.std.specs.Option.{unwrap_or}
+use Rattle.additions.specs.Examined.{AfterStep, examined}
+use Rattle.additions.specs.Adding.{Holding, After, One, Two, fitted, tested, joined_refusal, resolvent_refusal}
 
 module _ (t : Tables) (s : State) (h : Holding t s) where
   abbrev m : Model
@@ -91,36 +88,12 @@ pub fitted-accepted : (m : Model) (a : Addition) → no_room tables m a ≡ fals
 unfolding fitted
 fitted-accepted m a h = rw h
 
--- ---- the number of refusal of a resolvent, by its tests
+-- ---- the refusal of a joined clause is that of the resolvent
 
-module _ (s : State) (n : ℕ) (b : Bool) where
-  pub number-23 : b ≡ true → 23 ≡ refusal_number s n b
-  unfolding refusal_number
-  number-23 h = rw h
-
-  module _ (calm : b ≡ false) where
-    pub number-24 : width_limit < n → 24 ≡ refusal_number s n b
-    unfolding refusal_number
-    number-24 h = rw (calm, lt-ltb width_limit n h)
-
-    module _ (narrow : n ≤ width_limit) {f : Bool} (told : f ≡ full s 1 n 0) where
-      pub number-25 : f ≡ true → 25 ≡ refusal_number s n b
-      unfolding refusal_number
-      number-25 h = rw (calm, le-ltb width_limit n narrow, ← told, h)
-
-      pub number-0 : f ≡ false → 0 ≡ refusal_number s n b
-      unfolding refusal_number
-      number-0 h = rw (calm, le-ltb width_limit n narrow, ← told, h)
-
--- the refusal for a number
-module _ (n v : ℕ) where
-  pub clash-23 : n ≡ 23 → refusal_for n v ≡ Naming n v
-  unfolding refusal_for
-  clash-23 e = rw (eq-eqb n 23 e)
-
-  pub clash-other : n ≢ 23 → refusal_for n v ≡ Plain n
-  unfolding refusal_for
-  clash-other d = rw (ne_eqb n 23 d)
+pub joined-told : (s : State) (C : Clause) (n : ℕ) (clash : Code.Option ℕ) → n ≡ length C → is_some clash ≡ clashes C → unwrap_or clash 0 ≡ lowest_clash C → joined_refusal s n clash ≡ resolvent_refusal s C
+unfolding joined_refusal resolvent_refusal
+joined-told s C n (Code.Some x) p q r = rw (← q, ← r)
+joined-told s C n Code.None p q r = rw (← q, p)
 
 -- ---- what the functions of src/adding.rt leave
 
@@ -143,13 +116,8 @@ part-stored xs ys n m h k =
 
 module _ (t : Tables) (s : State) (h : Holding t s) where
   -- a refusal that the tests come to
-  pub after-told : (e : Examined) (x : Code.Refusal) {r : Stepped} → e ≡ refuses (refusal_told x) → r ≡ record { state = s; answer = Refused x } → After t s e t r
-  unfolding step_told
-  after-told e x p q = rw (p, q) (left-refused t s h (refusal_told x))
-
-  pub after-refused : (e : Examined) (n : ℕ) {r : Stepped} → e ≡ refuses (refusal n) → r ≡ refused_by s n → After t s e t r
-  unfolding refusal_told
-  after-refused e n p q = after-told e (Plain n) p q
+  pub after-refused : (e : Examined) (x : Refusal) → e ≡ refuses x → After t s e t s (some x)
+  after-refused e x p = rw p (left-refused t s h x)
 
   -- one clause: e comes to the test of room, of which f tells
   module _ (e : Examined) (C : Clause) (is : e ≡ fitted (model_in t s) (One C)) {w : ℕ} (width : w ≡ length C) {f : Bool} (told : f ≡ full s 1 w 0) where
@@ -157,8 +125,8 @@ module _ (t : Tables) (s : State) (h : Holding t s) where
     unfolding total
     no_room-is = room-told t s h.lent h.formed (One C) ∙ rw (add-zero (length C), told, width)
 
-    pub one-full : {r : Stepped} → f ≡ true → r ≡ refused_by s 25 → After t s e t r
-    one-full b q = after-refused e 25 (is ∙ fitted-25 (model_in t s) (One C) (no_room-is ∙ b)) q
+    pub one-full : f ≡ true → After t s e t s (some (refusal 25))
+    one-full b = after-refused e (refusal 25) (is ∙ fitted-25 (model_in t s) (One C) (no_room-is ∙ b))
 
     module _ (free : f ≡ false) where
       fits : Fits tables (model_in t s) (One C)
@@ -173,65 +141,56 @@ module _ (t : Tables) (s : State) (h : Holding t s) where
       one-asked q = (rw q (room-one t s h.lent h.formed C fits), (long-is t h.lent).ends, step_room t s h.lent h.formed (One C) fits (omega arith))
 
       pub one-added : {n : ℕ} {l : List ℤ} {d : List ℕ} {r : State} → n ≡ length C → l ≡ stored t.literals s.literals C → d ≡ set t.ends s.clauses.0 (s.literals + n) → r ≡ step_counted (clause_ended s n)
-          → After t s e (rows_of l d t.sets t.spare t.kinds) (record { state = r; answer = Accepted })
-      unfolding step_told
+          → After t s e (rows_of l d t.sets t.spare t.kinds) r none
       one-added q o u v = rw (is, fitted-accepted (model_in t s) (One C) (no_room-is ∙ free), o, u, v, q) (left_one t s h C fits)
 
-  -- ---- a resolvent, tested by its number
+  -- ---- a resolvent, by its refusal
 
-  module _ (C : Clause) {x : ℕ} (is_x : x ≡ refusal_number s (length C) (clashes C)) where
+  module _ (C : Clause) where
     room-is : no_room tables (model_in t s) (One C) ≡ full s 1 (length C) 0
     room-is = no_room-is (fitted (model_in t s) (One C)) C refl refl refl
 
-    by_number : tested (model_in t s) C ≡ cond (eqb x 0) (fitted (model_in t s) (One C)) (refuses (refusal_told (refusal_for x (lowest_clash C))))
-    unfolding tested fitted refusal_number refusal_for refusal_told
-    by_number = rw (is_x, room-is) (go (clashes C) (ltb width_limit (length C)) (full s 1 (length C) 0))
-      where
-        number : Bool → Bool → Bool → ℕ
-        number a b f = cond a 23 (cond b 24 (cond f 25 0))
-
-        room : Bool → Examined
-        room f = cond f (refuses (refusal 25)) (accepts (One C))
-
-        go : (a b f : Bool) → cond a (refuses (naming 23 (lowest_clash C))) (cond b (refuses (refusal 24)) (room f))
-            ≡ cond (eqb (number a b f) 0) (room f) (refuses (refusal_told (refusal_for (number a b f) (lowest_clash C))))
-        go true b f = refl
-        go false true f = refl
-        go false false true = refl
-        go false false false = refl
-
     -- z is what is left of the tail that was lent for it
-    module _ {z : List ℤ} (left : let tail = stretch s.literals literal_limit t.literals in z ≡ cond (eqb x 0) (overlaid C tail) tail) where
-      abbrev back : List ℤ
-      back = put_mid s.literals (literal_limit - s.literals) t.literals z
+    abbrev back : List ℤ → List ℤ
+    back z = put_mid s.literals (literal_limit - s.literals) t.literals z
 
-      pub resolvent-refused : {v : ℕ} → v ≡ lowest_clash C → {r : Stepped} → x ≢ 0 → r ≡ record { state = s; answer = Refused (refusal_for x v) }
-          → After t s (tested (model_in t s) C) (rows_of back t.ends t.sets t.spare t.kinds) r
-      resolvent-refused {v} e n p =
-          let same : back ≡ t.literals = rw (left, ne_eqb x 0 n) (put_same s.literals (literal_limit - s.literals) t.literals) in
-          rw same (after-told (tested (model_in t s) C) (refusal_for x v) (by_number ∙ rw (ne_eqb x 0 n, e)) p)
+    pub resolvent-refused : {x : Refusal} {z : List ℤ} → some x ≡ resolvent_refusal s C → z ≡ stretch s.literals literal_limit t.literals
+        → After t s (tested (model_in t s) C) (rows_of (back z) t.ends t.sets t.spare t.kinds) s (some x)
+    unfolding tested fitted resolvent_refusal
+    resolvent-refused {x} {z} e left =
+        let same : back z ≡ t.literals = rw left (put_same s.literals (literal_limit - s.literals) t.literals) in
+        rw same (after-refused (tested (model_in t s) C) x (rw room-is (go (clashes C) (ltb width_limit (length C)) (full s 1 (length C) 0) e)))
+      where
+        go : (a b f : Bool) → ◌≡◌ {A = Option Refusal} (some x) (cond a (some (naming 23 (lowest_clash C))) (cond b (some (refusal 24)) (cond f (some (refusal 25)) none)))
+            → cond a (refuses (naming 23 (lowest_clash C))) (cond b (refuses (refusal 24)) (cond f (refuses (refusal 25)) (accepts (One C)))) ≡ refuses x
+        go true b f p = cc
+        go false true f p = cc
+        go false false true p = cc
+        go false false false p = absurd (cc)
 
-      pub resolvent-stored : x ≡ 0 → s.literals + length C ≤ literal_limit → back ≡ stored t.literals s.literals C
-      resolvent-stored zero room = rw (left, eq-eqb x 0 zero) (part-stored t.literals C s.literals literal_limit room (long-is t h.lent).literals)
-
-    module _ (zero : x ≡ 0) where
-      pub resolvent-fitted : tested (model_in t s) C ≡ fitted (model_in t s) (One C)
-      resolvent-fitted = by_number ∙ rw (eq-eqb x 0 zero)
-
-      resolvent-narrow : (length C ≤ width_limit) × (full s 1 (length C) 0 ≡ false)
-      unfolding refusal_number
-      resolvent-narrow = go (clashes C) (ltb width_limit (length C)) refl (full s 1 (length C) 0) (sym is_x ∙ zero)
+    module _ (z : ◌≡◌ {A = Option Refusal} none (resolvent_refusal s C)) where
+      resolvent-passes : (clashes C ≡ false) × (ltb width_limit (length C) ≡ false) × (full s 1 (length C) 0 ≡ false)
+      unfolding resolvent_refusal
+      resolvent-passes = go (clashes C) (ltb width_limit (length C)) (full s 1 (length C) 0) z
         where
-          go : (a b : Bool) → ltb width_limit (length C) ≡ b → (f : Bool) → ◌≡◌ {A = ℕ} (cond a 23 (cond b 24 (cond f 25 0))) 0 → (length C ≤ width_limit) × (f ≡ false)
-          go true b e f q = absurd (omega arith)
-          go false true e f q = absurd (omega arith)
-          go false false e true q = absurd (omega arith)
-          go false false e false q = (ltb_no width_limit (length C) e, refl)
+          go : (a b f : Bool) → ◌≡◌ {A = Option Refusal} none (cond a (some (naming 23 (lowest_clash C))) (cond b (some (refusal 24)) (cond f (some (refusal 25)) none)))
+              → (a ≡ false) × (b ≡ false) × (f ≡ false)
+          go true b f q = absurd (cc)
+          go false true f q = absurd (cc)
+          go false false true q = absurd (cc)
+          go false false false q = (refl, refl, refl)
+
+      pub resolvent-fitted : tested (model_in t s) C ≡ fitted (model_in t s) (One C)
+      unfolding tested
+      resolvent-fitted = rw (resolvent-passes.0, resolvent-passes.1)
 
       pub resolvent-fits : (length C ≤ width_limit) × (full s 1 (length C) 0 ≡ false) × (s.literals + length C ≤ literal_limit)
       resolvent-fits =
-          let free = resolvent-narrow.1 in
-          (resolvent-narrow.0, free, (room-one t s h.lent h.formed C (fits_in tables (model_in t s) (One C) (room-is ∙ free))).literals-fit)
+          let free = resolvent-passes.2 in
+          (ltb_no width_limit (length C) resolvent-passes.1, free, (room-one t s h.lent h.formed C (fits_in tables (model_in t s) (One C) (room-is ∙ free))).literals-fit)
+
+      pub resolvent-stored : {w : List ℤ} → w ≡ overlaid C (stretch s.literals literal_limit t.literals) → back w ≡ stored t.literals s.literals C
+      resolvent-stored e = rw e (part-stored t.literals C s.literals literal_limit resolvent-fits.2 (long-is t h.lent).literals)
 
   -- the tail that is lent for it has zeros
   pub zero-tail : let tail = stretch s.literals literal_limit t.literals in tail ≡ replicate (length tail) (pos 0)
@@ -249,8 +208,8 @@ module _ (t : Tables) (s : State) (h : Holding t s) (e : Examined) (C D : Clause
   unfolding total
   no-room-two = room-told t s h.lent h.formed (Two C D w) ∙ rw (add-zero (length D), told, both, left, right)
 
-  pub two-full : {r : Stepped} → f ≡ true → r ≡ refused_by s 25 → After t s e t r
-  two-full k q = after-refused t s h e 25 (is ∙ fitted-25 (model_in t s) (Two C D w) (no-room-two ∙ k)) q
+  pub two-full : f ≡ true → After t s e t s (some (refusal 25))
+  two-full k = after-refused t s h e (refusal 25) (is ∙ fitted-25 (model_in t s) (Two C D w) (no-room-two ∙ k))
 
   module _ (free : f ≡ false) where
     fits-two : Fits tables (model_in t s) (Two C D w)
@@ -280,8 +239,7 @@ module _ (t : Tables) (s : State) (h : Holding t s) (e : Examined) (C D : Clause
         → l ≡ put_mid s.literals (length t.literals - s.literals) t.literals z
         → d ≡ set (set t.ends s.clauses.0 (s.literals + a)) (s.clauses.0 + 1) (s.literals + a + b) → u ≡ set t.sets s.variables.0 w → v ≡ t.spare
         → k ≡ set t.kinds s.variables.0 3 → r ≡ step_counted (variable_added (clause_ended (clause_ended s a) b))
-        → After t s e (rows_of l d u v k) (record { state = r; answer = Accepted })
-    unfolding step_told
+        → After t s e (rows_of l d u v k) r none
     two-added {z = z} p o q x spare y v =
         let inside : s.literals ≤ length t.literals = omega (arith, two-room) in
         rw (
@@ -332,7 +290,7 @@ module _ (t : Tables) (s : State) (h : Holding t s) (X Y : Clause) (w : Set) {a 
   second : b + 1 ≡ length D
   second = one_more Y (negsuc s.variables.0) is_b
 
-  pub fork-full : {r : Stepped} → f ≡ true → r ≡ refused_by s 25 → After t s forked t r
+  pub fork-full : f ≡ true → After t s forked t s (some (refusal 25))
   fork-full = two-full t s h forked C D w refl first second refl told
 
   module _ (free : f ≡ false) where
@@ -353,5 +311,5 @@ module _ (t : Tables) (s : State) (h : Holding t s) (X Y : Clause) (w : Set) {a 
         → l ≡ put_mid s.literals (length t.literals - s.literals) t.literals z
         → d ≡ set (set t.ends s.clauses.0 (s.literals + (a + 1))) (s.clauses.0 + 1) (s.literals + (a + 1) + (b + 1))
         → u ≡ set t.sets s.variables.0 w → v ≡ t.spare → k ≡ set t.kinds s.variables.0 3
-        → r ≡ step_counted (variable_added (clause_ended (clause_ended s (a + 1)) (b + 1))) → After t s forked (rows_of l d u v k) (record { state = r; answer = Accepted })
+        → r ≡ step_counted (variable_added (clause_ended (clause_ended s (a + 1)) (b + 1))) → After t s forked (rows_of l d u v k) r none
     fork-added p = two-added t s h forked C D w refl first second refl told free (rw (new-literal s.variables.0 fork-variable) at p)

@@ -14,8 +14,7 @@ use Rattle.dqbf.specs.Meaning.{Refuted}
 use Rattle.dqbf.specs.Reading.{load, accepted}
 use Rattle.dqbf.specs.Run.{refuted, Call, ran}
 use Rattle.tables.specs.Tables.{Tables}
-use Rattle.dqdimacs.specs.Loading.{load_of}
-use Rattle.dqdimacs.specs.declared.LoadAnswer.TheVariants.{Accepted}
+use Rattle.dqdimacs.specs.Loading.{Accepted, load_of}
 use Rattle.steps.specs.Statements.Refutation.{Lent, answers}
 
 -- tables and state behind a load

@@ -8,9 +8,7 @@ use Rattle.dqbf.specs.Formula.{Formula}
 use Rattle.dqbf.specs.Meaning.{Refuted}
 use Rattle.dqbf.specs.Reading.{load, accepted}
 use Rattle.dqbf.specs.Run.{refuted, Call, Answer, ran}
-use Rattle.dqdimacs.specs.Loading.{load_of}
-use Rattle.dqdimacs.specs.declared.LoadAnswer.{LoadAnswer}
-use Rattle.dqdimacs.specs.declared.LoadAnswer.TheVariants as LoadAnswer
+use Rattle.dqdimacs.specs.Loading.{LoadAnswer, load_of}
 use Rattle.steps.specs.Statements.Refutation.{Lent, next, answer}
 use Rattle.calls.specs.Statements.Refutation.{loaded}
 

@@ -1,6 +1,6 @@
 -- Families left by one setting after the other and one clause after the other (family_bits' specs/Left.antt: `Narrowed`).
 use mathlib.Core.Path.{◌≡◌, refl, sym, ◌∙◌, ap}
-use mathlib.Core.Bool.{Bool, true, false, ◌&&◌}
+use mathlib.Core.Bool.{Bool, ◌&&◌}
 use mathlib.Core.List.Memᴰ
 use mathlib.Core.List.{List}
 use Prim.Native.Nat.{ℕ, zero, suc, ◌+◌, ◌*◌, ◌^◌, ◌≤◌, ◌<◌}
@@ -14,6 +14,7 @@ use Rattle.deciding.specs.Deciding.{clause_at, all_below, always_true, all_true}
 use Rattle.tables.proofs.Laws.FormulaEntries.{cut-next}
 use Rattle.family_bits.specs.Left.{met, word_bits, is_left, Narrowed}
 use Rattle.family_bits.proofs.Laws.Left.{and_one, and_assoc, narrowed-all, narrowed-same, narrowed-next}
+use Rattle.std.specs.Prelude.{Some, None}
 use Rattle.clause_masks.specs.declared.Masks.{Masks}
 use Rattle.clause_masks.specs.Masking.{Over, OverAll, masks_met, MasksOf}
 
@@ -36,14 +37,14 @@ module _ (m : Model) (C : Clause) where
   more : (w f : ℕ) → true_below (w + 1) f ≡ (true_below w f && clause_at m f w C)
   more w f = ap (λ (k : ℕ). true_below k f) (add-one w) ∙ below_more w (λ v. clause_at m f v C)
 
-  module _ (w : ℕ) (r : Masks) (o : MasksOf m w C r) {a b : List ℕ} (n : Narrowed a b (true_below w)) where
-    pub below-always : r.always ≡ true → Narrowed a b (true_below (w + 1))
+  module _ (w : ℕ) {a b : List ℕ} (n : Narrowed a b (true_below w)) where
+    pub below-always : MasksOf m w C None → Narrowed a b (true_below (w + 1))
     unfolding masks_met
-    below-always e = narrowed-same (true_below (w + 1)) n (λ f. more w f ∙ ap (true_below w f &&◌) (o.same f ∙ rw e) ∙ and_one (true_below w f))
+    below-always o = narrowed-same (true_below (w + 1)) n (λ f. more w f ∙ ap (true_below w f &&◌) (o.same f) ∙ and_one (true_below w f))
 
-    pub below-met : r.always ≡ false → {c : List ℕ} → Narrowed b c (met r.ones r.zeros) → Narrowed a c (true_below (w + 1))
+    pub below-met : (r : Masks) → MasksOf m w C (Some r) → {c : List ℕ} → Narrowed b c (met r.ones r.zeros) → Narrowed a c (true_below (w + 1))
     unfolding masks_met
-    below-met e k = narrowed-next (true_below (w + 1)) n k (λ f. more w f ∙ ap (true_below w f &&◌) (o.same f ∙ rw e))
+    below-met r o k = narrowed-next (true_below (w + 1)) n k (λ f. more w f ∙ ap (true_below w f &&◌) (o.same f))
 
   pub below-done : {a b : List ℕ} (w u : ℕ) → Narrowed a b (true_below w) → w ≡ 2 ^ u → u ≡ universal_count m → Narrowed a b (λ f. always_true m f C)
   unfolding always_true

@@ -1,7 +1,7 @@
 -- Masks of literals and clauses (specs/Masking.antt): `masks_met`, `Asks`, `MasksOf`.
 use mathlib.Core.Path.{◌≡◌, refl, sym, ◌∙◌, ap, ap₂}
 use mathlib.Core.Logic.{◌≢◌}
-use mathlib.Core.Bool.{Bool, true, false, cond, not, ◌||◌}
+use mathlib.Core.Bool.{Bool, true, false, ◌||◌, beq, true≢false, false≢true}
 use mathlib.Core.Option.{some}
 use mathlib.Core.List.{List}
 use Prim.Native.Nat.{ℕ, zero, suc, ◌+◌, ◌-◌, ◌^◌, ◌≤◌, ◌<◌}
@@ -20,11 +20,12 @@ use Rattle.dqbf.proofs.Laws.Lists.{nth}
 use Rattle.dqbf.proofs.Laws.Tests.{ltb-not}
 use Rattle.deciding.specs.Deciding.{offset, row, function_at, value_for, value_at, literal_at, clause_at}
 use Rattle.tables.specs.FormulaEntries.{declarations}
-use Rattle.family_bits.specs.Left.{met}
 use Rattle.family_bits.proofs.Laws.Left.{met-nothing, met-one, met-zero}
 use Rattle.function_tables.proofs.Laws.Layout.{kind_at, set_at, offset-low}
 use Rattle.clause_masks.specs.declared.Masks.{Masks}
-use Rattle.clause_masks.specs.Masking.{SmallBits, is_negated, signed, Declared, Over, masks_met, Asks, MasksOf}
+use Rattle.std.specs.Prelude.{Option, Some, None}
+use Rattle.clause_masks.specs.Small.{SmallBits}
+use Rattle.clause_masks.specs.Masking.{is_negated, signed, Declared, Over, masks_met, Asks, MasksOf}
 
 -- ---- the sign of a literal
 
@@ -35,34 +36,30 @@ negative-is (negsuc n) = refl
 
 -- ---- one literal more
 
-pub literal-false : (r : Masks) (n v a b : Bool) → n ≡ a → v ≡ b → cond a (not b) b ≡ false → Asks r r (λ f. signed n v)
+pub literal-false : (r : Option Masks) (n v : Bool) → beq v n ≡ true → Asks r r (λ f. signed n v)
 unfolding signed
-literal-false r n v a b p q e = record { same = λ f. rw (p, q, e) }
+literal-false r true true e = record { same = λ f. refl }
+literal-false r true false e = absurd (false≢true e)
+literal-false r false true e = absurd (false≢true e)
+literal-false r false false e = record { same = λ f. refl }
 
-pub literal-true : (r s : Masks) (n v a b : Bool) → n ≡ a → v ≡ b → cond a (not b) b ≡ true → r.always ≡ true → Asks r s (λ f. signed n v)
+pub literal-true : (s : Option Masks) (n v : Bool) → beq v n ≡ false → Asks None s (λ f. signed n v)
 unfolding signed masks_met
-literal-true r s n v a b p q e t = record { same = λ f. rw (p, q, e, t) }
+literal-true s true true e = absurd (true≢false e)
+literal-true s true false e = record { same = λ f. refl }
+literal-true s false true e = record { same = λ f. refl }
+literal-true s false false e = absurd (true≢false e)
 
-module _ (r s : Masks) (n : Bool) (place : ℕ) (same : r.always ≡ s.always) where
-  pub literal-one : n ≡ false → r.ones ≡ bit_or s.ones (2 ^ place) → r.zeros ≡ s.zeros → Asks r s (λ f. signed n (bit f place))
+module _ (s : Masks) (n : Bool) (place : ℕ) {x : ℕ} where
+  pub literal-one : n ≡ false → x ≡ bit_or s.ones (2 ^ place) → Asks (Some (record { ones = x; zeros = s.zeros })) (Some s) (λ f. signed n (bit f place))
   unfolding signed masks_met
-  literal-one e o z = record { same = λ f. rw (same, e, o, z, met-one s.ones s.zeros place f) (go s.always (bit f place) (met s.ones s.zeros f)) }
-    where
-      go : (a p q : Bool) → cond a true (p || q) ≡ (p || cond a true q)
-      go true true q = refl
-      go true false q = refl
-      go false p q = refl
+  literal-one e o = record { same = λ f. rw (e, o) (met-one s.ones s.zeros place f) }
 
-  pub literal-zero : n ≡ true → r.ones ≡ s.ones → r.zeros ≡ bit_or s.zeros (2 ^ place) → Asks r s (λ f. signed n (bit f place))
+  pub literal-zero : n ≡ true → x ≡ bit_or s.zeros (2 ^ place) → Asks (Some (record { ones = s.ones; zeros = x })) (Some s) (λ f. signed n (bit f place))
   unfolding signed masks_met
-  literal-zero e o z = record { same = λ f. rw (same, e, o, z, met-zero s.ones s.zeros place f) (go s.always (not (bit f place)) (met s.ones s.zeros f)) }
-    where
-      go : (a p q : Bool) → cond a true (p || q) ≡ (p || cond a true q)
-      go true true q = refl
-      go true false q = refl
-      go false p q = refl
+  literal-zero e z = record { same = λ f. rw (e, z) (met-zero s.ones s.zeros place f) }
 
-pub asks-by : (r s : Masks) (P Q : ℕ → Bool) → Asks r s P → ((f : ℕ) → P f ≡ Q f) → Asks r s Q
+pub asks-by : (r s : Option Masks) (P Q : ℕ → Bool) → Asks r s P → ((f : ℕ) → P f ≡ Q f) → Asks r s Q
 asks-by r s P Q a e = record { same = λ f. a.same f ∙ ap (◌|| masks_met s f) (e f) }
 
 -- ---- a literal by the kind of its variable
@@ -122,7 +119,7 @@ module _ {kinds : List ℕ} {sets : List Set} {offsets : List ℕ} {u : ℕ} (b 
   kind-is : kind_of m (nat_abs l) ≡ get_or kinds (p - 1) 0
   kind-is = ap (kind_of m) (sym number) ∙ kind_at kinds sets (p - 1)
 
-  module _ (w : Set) (r s : Masks) (n : Bool) (sign : n ≡ is_negated l) where
+  module _ (w : Set) (r s : Option Masks) (n : Bool) (sign : n ≡ is_negated l) where
     pub asks-universal : (v : Bool) → v ≡ inside (get_or sets (p - 1) 0) w → get_or kinds (p - 1) 0 ≡ 1 → Asks r s (λ f. signed n v) → Asks r s (λ f. literal_at m f w l)
     asks-universal v q k a = asks-by r s (λ f. signed n v) (λ f. literal_at m f w l) a
         (λ f. ap₂ signed sign (q ∙ ap (λ (x : Set). inside x w) (sym set_is)) ∙ sym (universal-literal m f w l d.0 (kind-is ∙ k)))
@@ -136,14 +133,14 @@ module _ {kinds : List ℕ} {sets : List Set} {offsets : List ℕ} {u : ℕ} (b 
 -- ---- a clause, literal by literal
 
 module _ (m : Model) (w : Set) (C : Clause) where
-  abbrev pub Collected : Masks → ℕ → Type 0
+  abbrev pub Collected : Option Masks → ℕ → Type 0
   Collected r i = (f : ℕ) → clause_at m f w C ≡ (masks_met r f || clause_at m f w (drop i C))
 
-  pub collected-start : (r : Masks) → r.always ≡ false → r.ones ≡ 0 → r.zeros ≡ 0 → Collected r 0
+  pub collected-start : Collected (Some (record { ones = 0; zeros = 0 })) 0
   unfolding masks_met
-  collected-start r a o z f = rw (a, o, z, met-nothing f)
+  collected-start f = rw (met-nothing f)
 
-  pub collected-next : (r s : Masks) (i : ℕ) (l : ℤ) → i < length C → l ≡ get_or C i (pos 0) → Collected s i → Asks r s (λ f. literal_at m f w l) → Collected r (i + 1)
+  pub collected-next : (r s : Option Masks) (i : ℕ) (l : ℤ) → i < length C → l ≡ get_or C i (pos 0) → Collected s i → Asks r s (λ f. literal_at m f w l) → Collected r (i + 1)
   unfolding clause_at
   collected-next r s i l h e c a f =
       c f ∙ ap (λ (D : Clause). masks_met s f || clause_at m f w D) (drop-cons C i (pos 0) h)
@@ -158,13 +155,18 @@ module _ (m : Model) (w : Set) (C : Clause) where
       go false true r = refl
       go false false r = refl
 
-  pub collected-done : (r : Masks) (i : ℕ) → length C ≤ i → Collected r i → MasksOf m w C r
+  pub collected-done : (r : Option Masks) (i : ℕ) → length C ≤ i → Collected r i → MasksOf m w C r
   unfolding clause_at
   collected-done r i h c = record { same = λ f. c f ∙ ap (λ (D : Clause). masks_met r f || clause_at m f w D) (drop_of_length-le C {i = i} h) ∙ or-none (masks_met r f) }
     where
       or-none : (b : Bool) → (b || false) ≡ b
       or-none true = refl
       or-none false = refl
+
+  -- nothing is asked any more
+  pub collected-true : (i : ℕ) → Collected None i → MasksOf m w C None
+  unfolding masks_met
+  collected-true i c = record { same = λ f. c f }
 
   pub literal-over : Over m C → (i : ℕ) (l : ℤ) → i < length C → l ≡ get_or C i (pos 0) → Declared m l
   literal-over o i l h e = rw e (o (get_or C i (pos 0)) (nth C i (pos 0) h))

@@ -1,61 +1,48 @@
 -- `clause_masks::add_literal` meets its contract.
-use mathlib.Core.Path.{◌≡◌, refl, ◌∙◌, ap}
-use Prim.Native.Nat.{◌+◌, ◌-◌}
+use mathlib.Core.Path.{◌≡◌, ◌∙◌, ap, ap₂}
+use Prim.Native.Nat.{ℕ, ◌+◌}
 use native.Mathlib.Omega.{arith}
-use lib.IntN.{nat_abs}
-use lib.ListN.{get_or}
+use lib.IntN.{pos, nat_abs}
+use lib.Signed.{lt_z}
 use mir.Facts.{to_z-of_z}
 use Rattle.function_tables.proofs.Laws.Layout.{small_power}
-use Rattle.clause_masks.specs.Masking.{is_negated}
-use Rattle.clause_masks.proofs.Laws.Masks.{place-first, place-kinds, place-sets, place-offsets, start_small, asks-universal, asks-existential}
+use Rattle.std.specs.Prelude.{Some}
+use Rattle.dqbf.specs.Set.{inside}
+use Rattle.deciding.specs.Deciding.{row}
+use Rattle.clause_masks.proofs.Laws.Masks.{negative-is, place-first, place-kinds, place-sets, start_small, asks-universal, asks-existential}
 use Rattle.clause_masks.proofs.add_literal.Goals as goal
 
 pub overflow_sub-place : goal.overflow_sub-place
 overflow_sub-place c =
-    let is : c.variable_of.result ≡ nat_abs c.args.l = c.variable_of.ensures ∙ ap nat_abs (to_z-of_z c.ranges.l) in
-    place-first c.requires.0 c.args.l c.requires.1 c.variable_of.result is
+    let is : c.from-place.result ≡ nat_abs c.args.l = c.from-place.ensures ∙ c.unsigned_abs.ensures.value ∙ ap nat_abs (to_z-of_z c.ranges.l) in
+    place-first c.args.layout.small c.args.l c.requires c.from-place.result is
 
-pub bounds-sets-place : goal.bounds-sets-place
-bounds-sets-place c =
-    let is : c.variable_of.result ≡ nat_abs c.args.l = c.variable_of.ensures ∙ ap nat_abs (to_z-of_z c.ranges.l) in
-    place-sets c.requires.0 c.args.l c.requires.1 c.variable_of.result is
+pub bounds-layout-place : goal.bounds-layout-place
+bounds-layout-place c =
+    let is : c.from-place.result ≡ nat_abs c.args.l = c.from-place.ensures ∙ c.unsigned_abs.ensures.value ∙ ap nat_abs (to_z-of_z c.ranges.l) in
+    place-sets c.args.layout.small c.args.l c.requires c.from-place.result is
 
-pub overflow_cast-set : goal.overflow_cast-set
-overflow_cast-set c = omega (arith, c.type_inv.sets (c.variable_of.result - 1))
+pub bounds-layout-place-2 : goal.bounds-layout-place-2
+bounds-layout-place-2 c =
+    let is : c.from-place.result ≡ nat_abs c.args.l = c.from-place.ensures ∙ c.unsigned_abs.ensures.value ∙ ap nat_abs (to_z-of_z c.ranges.l) in
+    place-kinds c.args.layout.small c.args.l c.requires c.from-place.result is
 
-pub bounds-kinds-place : goal.bounds-kinds-place
-bounds-kinds-place c =
-    let is : c.variable_of.result ≡ nat_abs c.args.l = c.variable_of.ensures ∙ ap nat_abs (to_z-of_z c.ranges.l) in
-    place-kinds c.requires.0 c.args.l c.requires.1 c.variable_of.result is
+pub returns-then-layout-place-eq-UNIVERSAL : goal.returns-then-layout-place-eq-UNIVERSAL
+returns-then-layout-place-eq-UNIVERSAL c =
+    let is : c.from-place.result ≡ nat_abs c.args.l = c.from-place.ensures ∙ c.unsigned_abs.ensures.value ∙ ap nat_abs (to_z-of_z c.ranges.l) in
+    let negated = c.is_negative-negated.ensures ∙ ap (λ z. lt_z z (pos 0)) (to_z-of_z c.ranges.l) ∙ negative-is c.args.l in
+    asks-universal c.args.layout.small c.args.l c.requires c.from-place.result is c.args.setting c.add_value.result (Some c.args.masks) c.is_negative-negated.result negated _
+    (ap (λ (x : ℕ). inside x c.args.setting) c.from-set.ensures) c.if-layout-place-eq-UNIVERSAL.true c.add_value.ensures
 
-pub returns-then-kinds-place-eq-UNIVERSAL : goal.returns-then-kinds-place-eq-UNIVERSAL
-returns-then-kinds-place-eq-UNIVERSAL c =
-    let is : c.variable_of.result ≡ nat_abs c.args.l = c.variable_of.ensures ∙ ap nat_abs (to_z-of_z c.ranges.l) in
-    let negated = c.is_negated-negated.ensures ∙ ap is_negated (to_z-of_z c.ranges.l) in
-    asks-universal c.requires.0 c.args.l c.requires.1 c.variable_of.result is c.args.setting c.add_value.result c.args.masks c.is_negated-negated.result negated _ refl c.if-kinds-place-eq-UNIVERSAL.true c.add_value.ensures
-
-pub bounds-offsets-place : goal.bounds-offsets-place
-bounds-offsets-place c =
-    let is : c.variable_of.result ≡ nat_abs c.args.l = c.variable_of.ensures ∙ ap nat_abs (to_z-of_z c.ranges.l) in
-    place-offsets c.requires.0 c.args.l c.requires.1 c.variable_of.result is
-
-pub overflow_cast-start : goal.overflow_cast-start
-overflow_cast-start c = omega (arith, c.type_inv.offsets (c.variable_of.result - 1))
-
-pub overflow_add-start : goal.overflow_add-start
-overflow_add-start c =
-    let is : c.variable_of.result ≡ nat_abs c.args.l = c.variable_of.ensures ∙ ap nat_abs (to_z-of_z c.ranges.l) in
-    omega (arith, c.row-row.ensures.1, small_power c.args.universals c.requires.0.few, start_small c.requires.0 c.args.l c.requires.1 c.variable_of.result is)
-
-pub add_bit-requires : goal.add_bit-requires
-add_bit-requires c =
-    let is : c.variable_of.result ≡ nat_abs c.args.l = c.variable_of.ensures ∙ ap nat_abs (to_z-of_z c.ranges.l) in
-    omega (arith, c.row-row.ensures.1, small_power c.args.universals c.requires.0.few, start_small c.requires.0 c.args.l c.requires.1 c.variable_of.result is)
+pub add_bit-bit-requires : goal.add_bit-bit-requires
+add_bit-bit-requires c =
+    let is : c.from-place.result ≡ nat_abs c.args.l = c.from-place.ensures ∙ c.unsigned_abs.ensures.value ∙ ap nat_abs (to_z-of_z c.ranges.l) in
+    omega (arith, c.from.ensures, c.row-row.ensures.1, small_power c.args.layout.universals c.args.layout.small.few, start_small c.args.layout.small c.args.l c.requires c.from-place.result is)
 
 pub returns : goal.returns
 returns c =
-    let is : c.variable_of.result ≡ nat_abs c.args.l = c.variable_of.ensures ∙ ap nat_abs (to_z-of_z c.ranges.l) in
-    let negated = c.is_negated-negated.ensures ∙ ap is_negated (to_z-of_z c.ranges.l) in
-    let start = get_or c.args.offsets.now (c.variable_of.result - 1) 0 in
-    asks-existential c.requires.0 c.args.l c.requires.1 c.variable_of.result is c.args.setting c.add_bit.result c.args.masks c.is_negated-negated.result negated
-    (start + c.row-row.result) (ap (start +◌) c.row-row.ensures.0) c.if-kinds-place-eq-UNIVERSAL.false c.add_bit.ensures
+    let is : c.from-place.result ≡ nat_abs c.args.l = c.from-place.ensures ∙ c.unsigned_abs.ensures.value ∙ ap nat_abs (to_z-of_z c.ranges.l) in
+    let negated = c.is_negative-negated.ensures ∙ ap (λ z. lt_z z (pos 0)) (to_z-of_z c.ranges.l) ∙ negative-is c.args.l in
+    asks-existential c.args.layout.small c.args.l c.requires c.from-place.result is c.args.setting (Some c.add_bit-bit.result) (Some c.args.masks) c.is_negative-negated.result negated
+    (c.from.result + c.row-row.result) (ap₂ ◌+◌ c.from.ensures (c.row-row.ensures.0 ∙ ap (λ (x : ℕ). row c.args.layout.universals x c.args.setting) c.from-set.ensures))
+    c.if-layout-place-eq-UNIVERSAL.false c.add_bit-bit.ensures

@@ -1,36 +1,24 @@
 -- `clause_masks::keep_clause` meets its contract.
 use native.Mathlib.Omega.{arith}
 use Rattle.function_tables.proofs.Laws.Layout.{shifted}
-use Rattle.tables.specs.FormulaEntries.{declarations}
+use Rattle.clause_masks.specs.Laid.{model_of}
 use Rattle.clause_masks.proofs.Laws.Clauses.{below-start, below-always, below-met, below-done}
 use Rattle.clause_masks.proofs.keep_clause.Goals as goal
-
-pub overflow_shl-settings : goal.overflow_shl-settings
-overflow_shl-settings c = omega (arith, c.requires.0.few)
+use Rattle.clause_masks.proofs.keep_clause.Goals.{in-Some, in_default}
 
 pub loop-setting-init : goal.loop-setting-init
-loop-setting-init c = (omega arith, below-start (declarations c.args.kinds.now c.args.sets.now) c.args.clause.now c.args.left.now)
-
-pub masks_of-masks-requires : goal.masks_of-masks-requires
-masks_of-masks-requires c = c.requires
-
-pub keep-requires : goal.keep-requires
-keep-requires c = tt
-
-pub loop-setting-preserved-then-not-always : goal.loop-setting-preserved-then-not-always
-loop-setting-preserved-then-not-always c =
-    let m = declarations c.args.kinds.now c.args.sets.now in
-    let masks = c.masks_of-masks.result in
-    (omega arith, below-met m c.args.clause.now c.loop-setting.setting masks c.masks_of-masks.ensures c.loop-setting.invariant.1 c.if-not-always.true c.keep.ensures)
+loop-setting-init c = below-start (model_of c.args.layout) c.args.clause.now c.args.left.now
 
 pub loop-setting-preserved : goal.loop-setting-preserved
 loop-setting-preserved c =
-    let m = declarations c.args.kinds.now c.args.sets.now in
-    let masks = c.masks_of-masks.result in
-    (omega arith, below-always m c.args.clause.now c.loop-setting.setting masks c.masks_of-masks.ensures c.loop-setting.invariant.1 c.if-not-always.false)
+    let m = model_of c.args.layout in
+    elim c.match-masks_of.branch [
+      | in-Some w ↦ rw w.left-is (below-met m c.args.clause.now c.loop-setting.setting c.loop-setting.invariant w.in-Some.masks w.in-Some.ensures w.keep.ensures)
+      | in_default w ↦ rw w.left-is (below-always m c.args.clause.now c.loop-setting.setting c.loop-setting.invariant w.in_default.ensures)
+    ]
 
 pub returns : goal.returns
 returns c =
-    let m = declarations c.args.kinds.now c.args.sets.now in
-    let settings = shifted c.args.universals c.requires.0.few in
-    below-done m c.args.clause.now c.loop-setting.setting c.args.universals c.loop-setting.invariant.1 (omega arith) c.requires.0.counted
+    let small = c.args.layout.small in
+    let settings = shifted c.args.layout.universals small.few in
+    below-done (model_of c.args.layout) c.args.clause.now c.loop-setting.setting c.args.layout.universals c.loop-setting.invariant (omega arith) small.counted

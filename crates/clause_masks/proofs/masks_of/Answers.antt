@@ -1,28 +1,28 @@
 -- `clause_masks::masks_of` meets its contract.
-use mathlib.Core.Path.{refl}
+use Prim.Native.Nat.{◌+◌}
 use native.Mathlib.Omega.{arith}
-use borrow.Author.Rules.{sfits_of}
-use mir.Facts.{to_z-of_z}
+use borrow.Author.Rules.{rules}
 use mir.Syntax.{w16}
-use Rattle.tables.specs.FormulaEntries.{declarations}
-use Rattle.clause_masks.proofs.Laws.Masks.{collected-start, collected-next, collected-done, literal-over}
+use mir.Facts.{to_z-of_z}
+use Rattle.std.specs.Prelude.{Some, None}
+use Rattle.clause_masks.specs.Laid.{model_of}
+use Rattle.clause_masks.proofs.Laws.Masks.{collected-start, collected-next, collected-done, collected-true, literal-over}
 use Rattle.clause_masks.proofs.masks_of.Goals as goal
 
-pub loop-i-init : goal.loop-i-init
-loop-i-init c = (omega arith, collected-start (declarations c.args.kinds.now c.args.sets.now) c.args.setting c.args.clause.now _ refl refl refl)
+pub loop-l-init : goal.loop-l-init
+loop-l-init c = collected-start (model_of c.args.layout) c.args.setting c.args.clause.now
 
-pub add_literal-masks-requires : goal.add_literal-masks-requires
-add_literal-masks-requires c =
-    let m = declarations c.args.kinds.now c.args.sets.now in
-    (c.requires.0, literal-over m c.args.setting c.args.clause.now c.requires.1 c.loop-i.i _ (omega arith) (to_z-of_z {w = w16} (sfits_of c.l-1.given)))
+pub add_literal-requires : goal.add_literal-requires
+add_literal-requires c = literal-over (model_of c.args.layout) c.args.setting c.args.clause.now c.requires c.loop-l.l-index _ (omega arith) (to_z-of_z {w = w16} (search rules))
 
-pub loop-i-preserved : goal.loop-i-preserved
-loop-i-preserved c =
-    let m = declarations c.args.kinds.now c.args.sets.now in
-    let read = to_z-of_z {w = w16} (sfits_of c.l-1.given) in
-    (omega arith, collected-next m c.args.setting c.args.clause.now c.add_literal-masks.result c.loop-i.masks c.loop-i.i _ (omega arith) read c.loop-i.invariant.1 c.add_literal-masks.ensures)
+pub loop-l-preserved : goal.loop-l-preserved
+loop-l-preserved c =
+    collected-next (model_of c.args.layout) c.args.setting c.args.clause.now (Some c.in_ok-masks.masks) (Some c.loop-l.masks) c.loop-l.l-index _ (omega arith) (to_z-of_z {w = w16} (search rules)) c.loop-l.invariant c.in_ok-masks.ensures
+
+pub returns-in_err-masks : goal.returns-in_err-masks
+returns-in_err-masks c =
+    let next = collected-next (model_of c.args.layout) c.args.setting c.args.clause.now None (Some c.loop-l.masks) c.loop-l.l-index _ (omega arith) (to_z-of_z {w = w16} (search rules)) c.loop-l.invariant c.in_err-masks.ensures in
+    rw c.from_residual.ensures (collected-true (model_of c.args.layout) c.args.setting c.args.clause.now (c.loop-l.l-index + 1) next)
 
 pub returns : goal.returns
-returns c =
-    let m = declarations c.args.kinds.now c.args.sets.now in
-    collected-done m c.args.setting c.args.clause.now c.loop-i.masks c.loop-i.i (omega arith) c.loop-i.invariant.1
+returns c = collected-done (model_of c.args.layout) c.args.setting c.args.clause.now (Some c.loop-l.masks) c.loop-l.l-index (omega arith) c.loop-l.invariant

@@ -6,7 +6,7 @@ use mathlib.Core.Logic.{◌≢◌}
 use mathlib.Core.Bool.{Bool, true, false, ◌&&◌, or_assoc, true≢false}
 use mathlib.Core.List.Memᴰ
 use mathlib.Core.List.{List, [], ◌∷◌, ◌++◌}
-use Prim.Native.Nat.{ℕ, zero, suc, ◌+◌, ◌-◌, ◌<◌, ◌≤◌, ◌^◌}
+use Prim.Native.Nat.{ℕ, zero, suc, ◌+◌, ◌-◌, ◌<◌, ◌≤◌}
 use native.Mathlib.Nat.{add-zero, zero-add}
 use native.Mathlib.Omega.{arith}
 use borrow.Author.Tests.{eq-eqb, ne_eqb, eqb-true}
@@ -14,7 +14,6 @@ use lib.Bits.{or_zero_l, or_zero_r}
 use lib.Dec.{eqb}
 use lib.IntN.{ℤ, pos, nat_abs}
 use lib.ListN.{length, get_or, take, drop, take-append-drop}
-use lib.Signed.{mag}
 use mir.Syntax.{w16}
 use mir.Val.{SFits, to_z, of_z}
 use mir.Facts.{to_z-of_z}
@@ -67,15 +66,15 @@ module _ (sets : List Set) where
   set_at (suc i) n = let e : suc i - 1 ≡ i = omega arith in rw e
 
   -- an entry that was read has a set
-  pub set_there : {C : Clause} → InUse sets C → (i : ℕ) → i < length C → mag (get_or C i (pos 0)) < 2 ^ 15
+  pub set_there : {C : Clause} → InUse sets C → (i : ℕ) → i < length C → SFits w16 (get_or C i (pos 0))
       → (0 < nat_abs (to_z w16 (of_z w16 (get_or C i (pos 0))))) × (nat_abs (to_z w16 (of_z w16 (get_or C i (pos 0)))) ≤ length sets)
-  set_there {C} u i h f = rw (var-kept (get_or C i (pos 0)) f) (u (get_or C i (pos 0)) (nth C i (pos 0) h))
+  set_there {C} u i h f = rw (var-kept (get_or C i (pos 0)) f.sfits) (u (get_or C i (pos 0)) (nth C i (pos 0) h))
 
   -- ---- of what a loop has before it, D: its literal in front is k, an entry whose set S was looked up
 
-  module _ {D R : Clause} {k : ℤ} {S : Set} (e : D ≡ k ∷ R) (f : mag k < 2 ^ 15) (q : S ≡ set_in sets (nat_abs (to_z w16 (of_z w16 k)))) where
+  module _ {D R : Clause} {k : ℤ} {S : Set} (e : D ≡ k ∷ R) (f : SFits w16 k) (q : S ≡ set_in sets (nat_abs (to_z w16 (of_z w16 k)))) where
     looked-up : set_in sets (nat_abs k) ≡ S
-    looked-up = sym (q ∙ ap (set_in sets) (var-kept k f))
+    looked-up = sym (q ∙ ap (set_in sets) (var-kept k f.sfits))
 
     -- the union so far is r, and with S it is t
     pub set_more : (r : Set) {t : Set} → t ≡ union r S → union r (clause_set_in sets D) ≡ union t (clause_set_in sets R)
@@ -111,7 +110,7 @@ module _ (sets : List Set) where
   measuring-start C = record { width = sym (zero-add (length C)); united = sym (or_zero_l (clause_set_in sets C)) }
 
   module _ {C : Clause} {count : ℕ} {set : Set} {rest : Clause} (w : Measuring C count set rest) where
-    pub measuring-more : {k : ℤ} {more : Clause} → rest ≡ k ∷ more → mag k < 2 ^ 15 → {S : Set} → S ≡ set_in sets (nat_abs (to_z w16 (of_z w16 k))) → {U : Set} → U ≡ union set S
+    pub measuring-more : {k : ℤ} {more : Clause} → rest ≡ k ∷ more → SFits w16 k → {S : Set} → S ≡ set_in sets (nat_abs (to_z w16 (of_z w16 k))) → {U : Set} → U ≡ union set S
         → Measuring C (count + 1) U more
     measuring-more e f q u = record { width = omega (arith, w.width, ap length e); united = w.united ∙ set_more e f q set u }
 

@@ -17,7 +17,7 @@ loop-at-init c = (refl, pick-few c.args.mask c.args.clause.now, unfold as_set in
 
 pub set_of-requires : goal.set_of-requires
 set_of-requires c =
-    set_there (as_sets words_each c.args.sets.now) c.requires.0 c.loop-at.at (omega arith) c.l-1.given
+    set_there (as_sets words_each c.args.sets.now) c.requires.0 c.loop-at.at (omega arith) (search rules)
 
 pub overflow_add-count : goal.overflow_add-count
 overflow_add-count c = omega (arith, c.loop-at.invariant.2.width)
@@ -35,8 +35,8 @@ loop-at-smaller c =
 
 pub loop-at-preserved : goal.loop-at-preserved
 loop-at-preserved c =
-    (refl, c.loop-at.invariant.1, measuring-more _ c.loop-at.invariant.2 (lowest-picked c.args.clause.now c.loop-at.rest c.loop-at.at c.requires.1 c.loop-at.invariant.0 (omega arith)) c.l-1.given c.set_of.ensures c.union-more.ensures)
+    (refl, c.loop-at.invariant.1, measuring-more _ c.loop-at.invariant.2 (lowest-picked c.args.clause.now c.loop-at.rest c.loop-at.at c.requires.1 c.loop-at.invariant.0 (omega arith)) (search rules) c.set_of.ensures c.union-more.ensures)
 
 pub returns : goal.returns
 returns c =
-    measuring-done _ c.loop-at.invariant.2 (none-picked c.args.clause.now c.loop-at.rest c.loop-at.at c.requires.1 c.loop-at.invariant.0 (omega arith)) c.loop-at.united refl
+    measuring-done _ c.loop-at.invariant.2 (none-picked c.args.clause.now c.loop-at.rest c.loop-at.at c.requires.1 c.loop-at.invariant.0 (omega arith)) c.loop-at.set refl

@@ -1,13 +1,15 @@
 -- The operations on one clause (dqbf's specs/Literal.antt, specs/Places.antt), a literal at a time: `place_of`, `pick`, `covers`.
--- Of the first: what it is where a loop has nothing before it, D ≡ [], and by its literal in front, D ≡ k ∷ R. Of a part: by the lowest bit of its mask.
+-- Of the first: by what `position` tells. Of a part: by the lowest bit of its mask.
 -- `place-holds`, `without-place`: what the place of a literal tells of `holds` and `without`.
 use mathlib.Core.Path.{◌≡◌, refl, ap, sym, ◌∙◌}
 use mathlib.Core.Logic.{◌⊎◌, inl, inr, ◌≢◌}
 use mathlib.Core.Bool.{Bool, true, false, cond, ◌&&◌, ◌||◌}
 use mathlib.Core.List.Memᴰ
 use mathlib.Core.List.{[], ◌∷◌, ◌++◌}
+use Rattle.std.specs.Prelude.{Option, Some, None, MatchOption}
+use Rattle.std.specs.List.{AllWithin, HoldsAt}
 use Prim.Native.Nat.{ℕ, zero, suc, ◌+◌, ◌-◌, ◌*◌, ◌/◌, ◌%◌, ◌≤◌, ◌<◌, ◌^◌, max}
-use native.Mathlib.Nat.{mod-lt, one-mul, pow-suc, suc-add, not-suc-le-zero, le_of_suc-le-suc}
+use native.Mathlib.Nat.{mod-lt, one-mul, pow-suc, suc-add, zero-add, not-suc-le-zero, le_of_suc-le-suc}
 use native.Mathlib.Decide.{dec_lt}
 use native.Mathlib.Omega.{arith}
 use borrow.Author.Tests.{eq-eqb, ne_eqb, eqb-true, eqb-false, lt-ltb, le-ltb}
@@ -15,7 +17,7 @@ use lib.Bits.{bit_and, bit_or, or_step}
 use lib.Count.{count_trailing_zeros, under, trailing_of_zero}
 use lib.Dec.{eqb, ltb, eqb-suc-zero}
 use lib.IntN.{ℤ, pos, nat_abs}
-use lib.ListN.{length, get_or}
+use lib.ListN.{length, drop, get_or}
 use lib.Pow.{pow_pos, shl_exact}
 use Rattle.dqbf.specs.Limits.{width_limit}
 use Rattle.dqbf.specs.Literal.{Clause, ◌∈◌, same, holds, without, pick, covers}
@@ -26,6 +28,7 @@ use Rattle.dqbf.proofs.Laws.Literals.{same-is, same-same, same_not}
 use Rattle.dqbf.proofs.Laws.Tests.{either, or_no}
 use Rattle.dqbf.proofs.Laws.Words.{bit-or, bit-ext, bit-zero, digit, lowest-odd, lowest-even}
 use Rattle.clauses.specs.Places.{place_of, but_at}
+use Rattle.clauses.proofs.Laws.Places.{list-front, list-end}
 
 -- ---- place_of
 
@@ -36,21 +39,31 @@ ltb-suc a b = go (dec_lt a b)
     go (yes h) = lt-ltb (suc a) (suc b) (omega arith) ∙ sym (lt-ltb a b h)
     go (no h) = le-ltb (suc a) (suc b) (omega arith) ∙ sym (le-ltb a b (omega arith))
 
+-- what `position` tells of a literal in a clause
+abbrev pub Found : ℤ → Clause → Option ℕ → Type 0
+Found l C r =
+    MatchOption r (AllWithin (λ x. x ≢ l) C 0 (length C)) (λ i. (i < length C) × HoldsAt (λ x. x ≡ l) C i × AllWithin (λ x. x ≢ l) C 0 i)
+
 module _ (l : ℤ) where
-  -- behind i literals that are others, n is the place
-
-  module _ {D R : Clause} {k : ℤ} (e : D ≡ k ∷ R) {n : ℕ} (i : ℕ) (p : n ≡ i + place_of l D) where
-    pub place_found : k ≡ l → i ≡ n
-    unfolding place_of
-    place_found q = let here : place_of l D ≡ 0 = rw (e, q, same-same l) in omega (arith, here)
-
-    pub place-passed : k ≢ l → n ≡ i + 1 + place_of l R
-    unfolding place_of
-    place-passed m = let next : place_of l D ≡ suc (place_of l R) = rw (e, same_not k l m) in omega (arith, next)
-
-  pub place_end : {D : Clause} → D ≡ [] → {n : ℕ} (i : ℕ) → n ≡ i + place_of l D → i ≡ n
+  -- no literal before place i is l: the place is i or one behind it
+  place-behind : (C : Clause) (i : ℕ) → i ≤ length C → AllWithin (λ x. x ≢ l) C 0 i → place_of l C ≡ i + place_of l (drop i C)
   unfolding place_of
-  place_end {D} e i p = let none : place_of l D ≡ 0 = rw e in omega (arith, none)
+  place-behind C zero h n = sym (zero-add (place_of l C))
+  place-behind [] (suc i) h n = absurd (not-suc-le-zero h)
+  place-behind (k ∷ C) (suc i) h n =
+      rw (same_not k l (n 0 (pos 0) (omega arith) (omega arith)), suc-add i (place_of l (drop i C)))
+      (ap suc (place-behind C i (le_of_suc-le-suc h) (λ j d a b. n (suc j) d (omega arith) (omega arith))))
+
+  pub place-found : (C : Clause) (r : Option ℕ) → Found l C r → MatchOption r (place_of l C ≡ length C) (λ i. (i ≡ place_of l C) × (i < length C))
+  unfolding place_of
+  place-found C None n =
+      let e = place-behind C (length C) (omega arith) n in
+      let none : place_of l (drop (length C) C) ≡ 0 = rw (list-end C (length C) (omega arith)) in
+      omega (arith, e, none)
+  place-found C (Some i) (h, there, n) =
+      let e = place-behind C i (omega arith) n in
+      let here : place_of l (drop i C) ≡ 0 = rw (list-front C i (pos 0) h, there (pos 0), same-same l) in
+      (omega (arith, e, here), h)
 
   -- the literal stands in the clause exactly if its place does
   pub place-holds : (C : Clause) → holds l C ≡ ltb (place_of l C) (length C)

@@ -1,22 +1,18 @@
 -- Literals as the machine compares them: by their 16 bits.
--- An entry that was read is e, with its range; a literal l that is passed is `to_z w16 (of_z w16 l)` in a loop.
+-- An entry that was read is e, with its range.
 use mathlib.Core.Path.{◌≡◌, ap, sym, ◌∙◌}
 use mathlib.Core.Logic.{◌≢◌}
 use Prim.Native.Nat.{ℕ, ◌<◌, ◌^◌}
 use lib.IntN.{ℤ}
 use lib.Signed.{mag}
 use mir.Syntax.{w16}
-use mir.Val.{SFits, to_z, of_z}
-use mir.Facts.{to_z-of_z}
+use mir.Val.{to_z, of_z}
 use Rattle.dqbf.proofs.Laws.Signed.{kept16}
 
 -- ---- bits
 
 pub bits-same : {e : ℤ} {b : ℕ} → mag e < 2 ^ 15 → of_z w16 e ≡ b → e ≡ to_z w16 b
 bits-same f q = sym (kept16 f) ∙ ap (to_z w16) q
-
-pub bits-differ : {e l : ℤ} → SFits w16 l → (of_z w16 e ≡ of_z w16 l → ⊥) → e ≢ to_z w16 (of_z w16 l)
-bits-differ f n q = n (ap (of_z w16) (q ∙ to_z-of_z f))
 
 -- ---- two entries that were read
 

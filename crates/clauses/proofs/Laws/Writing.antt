@@ -1,6 +1,6 @@
 -- Writing a list to the front of another (specs/Writing.antt), an element at a time, and over the tail of a table that is lent for it. Any element type.
 -- Offers: `Copying`, where a writer stands, with `copying-start`, `copying-kept`, `copying-done`; `Writing`, that it left the rest as it was,
--- with `writing_start`, `writing_more`, `writing-room`, `writing-done`; of what was written, `copied-length`, `copied-within`, `written_as`, `written-copied`, `written_behind`;
+-- with `writing_start`, `writing_more`, `writing-room`, `writing-done`; of what was written, `written_as`, `written_behind`;
 -- `tail-room`, what a writer requires that is lent the tail of a table from n on.
 use mathlib.Core.Path.{◌≡◌, refl, ap, sym, ◌∙◌}
 use mathlib.Core.List.{List, [], ◌∷◌, ◌++◌, append-nil}
@@ -8,8 +8,8 @@ use Prim.Native.Nat.{ℕ, ◌+◌, ◌-◌, ◌<◌, ◌≤◌}
 use native.Mathlib.Numerals.{add-one}
 use native.Mathlib.Omega.{arith}
 use borrow.Rule.Slice.PartMut.{put_mid}
-use lib.ListN.{length, take, drop, set, length-set, length-append, length-drop, length-take, take-append-drop}
-use lib.Seq.{append_snoc, length-take-le, drop-set-lt, take-suc-set, drop-drop, take-append_seam}
+use lib.ListN.{length, take, drop, set, length-set, length-append, length-drop, take-append-drop}
+use lib.Seq.{append_snoc, length-take-le, drop-set-lt, take-suc-set, drop-drop}
 use Rattle.dqbf.proofs.Laws.Parts.{front-part, tail-lent}
 use Rattle.clauses.specs.Writing.{Written, Copied}
 
@@ -78,20 +78,9 @@ module _ {A : Type 0} where
 
   -- ---- what was written
 
-  module _ {ys zs : List A} {n : ℕ} (w : Copied ys zs n) where
-    pub copied-length : n ≡ length (take n zs)
-    copied-length = w.count ∙ sym (ap length w.front)
-
-    pub copied-within : n ≤ length zs
-    copied-within = omega (arith, copied-length, length-take n zs)
-
   module _ {ys xs zs : List A} {n : ℕ} (w : Written ys xs zs n) where
     pub written_as : {us : List A} → ys ≡ us → Written us xs zs n
     written_as e = rw e at w
-
-    -- what was written stands in front
-    pub written-copied : Copied ys zs n
-    written-copied = record { count = w.count; front = rw (w.count, w.left) (take-append_seam ys (drop (length ys) xs)) }
 
     -- another list behind it, over the tail that is lent from n on
     pub written_behind : {us ws : List A} {m : ℕ} → length ys ≤ length xs → Written us (take (length zs - n) (drop n zs)) ws m

@@ -1,7 +1,7 @@
--- Laws of specs/Bytes.antt, in its order, over the width of an entry: lengths, an entry by its place, and both round trips.
+-- Laws of specs/Bytes.antt, in its order, over the width of an entry: lengths, and both round trips.
 -- `Bytes b` says that a list is one of bytes, `Fits w xs` that w bytes hold each entry.
 use mathlib.Core.Path.{◌≡◌, refl, ap, sym, ◌∙◌}
-use mathlib.Core.List.{List, [], ◌∷◌, ◌++◌, append_assoc, append-nil}
+use mathlib.Core.List.{List, [], ◌∷◌, ◌++◌, append_assoc}
 use Prim.Native.Nat.{ℕ, zero, suc, ◌+◌, ◌-◌, ◌*◌, ◌/◌, ◌%◌, ◌<◌, ◌≤◌, ◌^◌}
 use native.Mathlib.Nat.{pow-suc, mul-zero, mul-suc, add_comm, one-le-pow, div-lt_iff_lt-mul}
 use native.Mathlib.Omega.{arith}
@@ -65,14 +65,6 @@ unfolding entries
 entries-length w zero b = refl
 entries-length w (suc n) b = ap suc (entries-length w n (drop w b))
 
-pub entries_at : (w n : ℕ) (b : List ℕ) (i : ℕ) → i < n → number (take w (drop (w * i) b)) ≡ get_or (entries w n b) i 0
-unfolding entries
-entries_at w zero b i h = omega arith
-entries_at w (suc n) b zero h = rw (mul-zero w)
-entries_at w (suc n) b (suc i) h =
-    let e : w * suc i ≡ w + w * i = mul-suc w i ∙ add_comm (w * i) w in
-    rw (e, ← drop-drop (w * i) w b) (entries_at w n (drop w b) i (omega arith))
-
 pub entries_fit : (w n : ℕ) (b : List ℕ) → Bytes b → Fits w (entries w n b)
 unfolding entries
 entries_fit w zero b k i = some-power w
@@ -85,11 +77,6 @@ pub bytes-length : (w : ℕ) (xs : List ℕ) → length (bytes_of w xs) ≡ w * 
 unfolding bytes_of
 bytes-length w [] = sym (mul-zero w)
 bytes-length w (x ∷ xs) = length-append (digits w x) (bytes_of w xs) ∙ rw (digits-length w x, bytes-length w xs, mul-suc w (length xs)) (add_comm w (w * length xs))
-
-pub bytes-behind : (w : ℕ) (xs : List ℕ) (x : ℕ) → bytes_of w (xs ++ (x ∷ [])) ≡ bytes_of w xs ++ digits w x
-unfolding bytes_of
-bytes-behind w [] x = append-nil (digits w x)
-bytes-behind w (y ∷ xs) x = rw (bytes-behind w xs x) (sym (append_assoc (digits w y) (bytes_of w xs) (digits w x)))
 
 -- ---- round trips
 

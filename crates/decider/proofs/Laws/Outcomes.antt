@@ -2,6 +2,7 @@
 use mathlib.Core.Path.{◌≡◌, refl, sym, ◌∙◌, ap}
 use mathlib.Core.Logic.{◌≢◌}
 use mathlib.Core.Bool.{Bool, true, false, cond}
+use mathlib.Core.Option.{none, some}
 use mathlib.Core.List.Memᴰ
 use mathlib.Core.List.{List, []}
 use Prim.Native.Nat.{ℕ, zero, suc, ◌≤◌, ◌<◌}
@@ -11,7 +12,7 @@ use lib.Dec.{ltb}
 use lib.IntN.{ℤ, nat_abs}
 use lib.ListN.{take, get_or}
 use Rattle.dqbf.specs.Limits.{tables, small_universals, small_bits}
-use Rattle.dqbf.specs.Refusal.{refusal}
+use Rattle.dqbf.specs.Refusal.{Refusal, refusal}
 use Rattle.dqbf.specs.Literal.{Clause}
 use Rattle.dqbf.specs.Set.{Set}
 use Rattle.dqbf.specs.Model.{Model, clauses, universal_count, kind_of, set_of}
@@ -24,10 +25,10 @@ use Rattle.tables.specs.declared.State.{State}
 use Rattle.tables.specs.Tables.{Tables, cut, model_in}
 use Rattle.tables.specs.FormulaEntries.{declarations}
 use Rattle.tables.specs.WellFormed.{long, well_formed}
-use Rattle.tables.specs.Unusable.{unless_refused, unusable_number}
-use Rattle.tables.proofs.Laws.FormulaEntries.{kind-declared, set-declared, part-is, universals-are, entries-are}
+use Rattle.tables.specs.Unusable.{unusable, unless_refused}
+use Rattle.tables.proofs.Laws.FormulaEntries.{bound-kinds, kind-declared, set-declared, part-is, universals-are, entries-are}
 use Rattle.tables.proofs.Laws.Spread.{valid-held}
-use Rattle.tables.proofs.Laws.Unusable.{usable, first-is, none_lent, none-formed}
+use Rattle.tables.proofs.Laws.Unusable.{none_lent, none-formed}
 use Rattle.deciding.specs.Deciding.{total_bits, first_family, Decision, undecided, decided, above, decide}
 use Rattle.function_tables.specs.Layout.{AllSmall}
 use Rattle.function_tables.proofs.Laws.Layout.{set_at}
@@ -80,6 +81,9 @@ module _ (t : Tables) (s : State) (lent : long t ≡ true) (formed : well_formed
   abbrev p : Model
   p = formula_in kinds sets Cs
 
+  pub few-variables : s.bound.0 ≤ 512
+  few-variables = let n = bound-kinds t s lent formed in let e = entries-are t s lent formed in omega (arith, e.few-variables)
+
   pub decide-part : decide (model_in t s) ≡ decide p
   unfolding decide
   decide-part = ap (λ (q : Model). cond (above q) (undecided (refusal 31)) (decided (first_family q))) (part-is t s lent formed ∙ sym (part_same kinds sets Cs))
@@ -125,15 +129,15 @@ module _ (t : Tables) (s : State) (lent : long t ≡ true) (formed : well_formed
 
 -- ---- the outcomes
 
-module _ (t : Tables) (s : State) {n : ℕ} (told : n ≡ unusable_number t s) where
-  pub decide-refused : (n ≡ 0 → ⊥) → undecided (refusal n) ≡ decision_answer t s
+module _ (t : Tables) (s : State) where
+  pub decide-refused : {r : Refusal} → some r ≡ unusable t s → undecided r ≡ decision_answer t s
   unfolding decision_answer unless_refused
-  decide-refused h = rw (first-is t s told h)
+  decide-refused e = rw (← e)
 
-  module _ (z : n ≡ 0) where
+  module _ (z : none ≡ unusable t s) where
     pub formed-asks : (long t ≡ true) × (well_formed t s ≡ true)
-    formed-asks = (none_lent t s told z, none-formed t s told z)
+    formed-asks = (none_lent t s (sym z), none-formed t s (sym z))
 
     pub decide-told : {d : Decision} → d ≡ decide (model_in t s) → d ≡ decision_answer t s
     unfolding decision_answer unless_refused
-    decide-told e = e ∙ rw (usable t s (none_lent t s told z) (none-formed t s told z))
+    decide-told e = e ∙ rw (← z)

@@ -2,16 +2,17 @@
 use mathlib.Core.Path.{◌≡◌, refl, sym, ◌∙◌, ap, ap₂}
 use mathlib.Core.Bool.{Bool, true, false, cond, ◌&&◌, ◌||◌}
 use mathlib.Core.Option.{Option, none, some}
-use mathlib.Core.List.{List, [], ◌∷◌, ◌++◌}
+use mathlib.Core.List.{List, [], ◌∷◌}
 use Prim.Native.Nat.{ℕ, zero, suc, ◌+◌, ◌-◌, ◌*◌, ◌%◌, ◌^◌, ◌≤◌, ◌<◌}
 use native.Mathlib.Numerals.{add-one}
 use native.Mathlib.Decide.{dec_lt}
 use native.Mathlib.Omega.{arith}
 use lib.Dec.{eqb}
 use lib.IntN.{ℤ, pos, negsuc}
-use lib.ListN.{length, take, replicate, length-replicate, length-append}
-use lib.Seq.{take_at, length-take-le}
-use lib.Pow.{pow-add, pow-lt}
+use lib.ListN.{length, take, replicate, length-replicate}
+use lib.Seq.{length-take-le}
+use lib.Pow.{pow-add}
+use Rattle.std.proofs.Math.Nat.{pow-le-pow_right}
 use Rattle.dqbf.specs.Literal.{Clause}
 use Rattle.dqbf.specs.Set.{Set, size}
 use Rattle.dqbf.specs.Meaning.{is}
@@ -22,12 +23,8 @@ use Rattle.tables.specs.FormulaEntries.{declarations}
 use Rattle.tables.proofs.Laws.FormulaEntries.{kind-declared, set-declared}
 use Rattle.family_bits.specs.Left.{word_bits, is_left, all_left, Narrowed}
 use Rattle.family_bits.proofs.Laws.Left.{every-left}
-use Rattle.dqbf.specs.Limits.{small_bits}
-use Rattle.function_tables.specs.Layout.{LaidOut}
-use Rattle.clause_masks.specs.Masking.{SmallBits}
-use Rattle.decider.specs.Entries.{SmallFormula}
 use Rattle.deciding.proofs.Answers.{few-families}
-use Rattle.deciding.specs.Deciding.{table_bits, offset, total_bits, function_at, value_at, literal_at, clause_at, all_below, always_true, all_true, makes_true, least_from, first_family, Decision, decide}
+use Rattle.deciding.specs.Deciding.{table_bits, offset, total_bits, function_at, value_at, literal_at, clause_at, all_below, always_true, all_true, makes_true, least_from, first_family}
 
 -- ---- number by number
 
@@ -55,20 +52,19 @@ least-same k (suc n) P Q h =
     ap₂ (λ (b : Bool) (r : Option ℕ). cond b (some k) r) (h k (omega arith) (omega arith)) (least-same (suc k) n P Q (λ j a b. h j (omega arith) (omega arith)))
 
 -- 64 to a word
-pub one_word : (b : ℕ) → b ≤ 6 → (2 ^ b ≤ 64 * 1) × (1 ≤ 1024)
-one_word b h = (go (dec_lt b 6), omega arith)
+pub enough-words : (b : ℕ) → b ≤ 16 → (2 ^ b ≤ 64 * ((1 * 2 ^ (b - 6)) % 18446744073709551616)) × ((1 * 2 ^ (b - 6)) % 18446744073709551616 ≤ 1024)
+enough-words b h = rw (shifted (b - 6) (omega (arith, h))) (go (dec_lt 6 b))
   where
-    go : Dec (b < 6) → 2 ^ b ≤ 64 * 1
-    go (yes l) = let p : 2 ^ b < 2 ^ 6 = pow-lt {i = b} {j = 6} l in omega arith
-    go (no l) = let e : b ≡ 6 = omega arith in rw e (omega arith)
-
-pub more-words : (b : ℕ) → 6 < b → b ≤ 16 → (2 ^ b ≤ 64 * ((1 * 2 ^ (b - 6)) % 18446744073709551616)) × ((1 * 2 ^ (b - 6)) % 18446744073709551616 ≤ 1024)
-more-words b l h =
-    let s = shifted (b - 6) (omega (arith, l)) in
-    let e : b ≡ 6 + (b - 6) = omega (arith, l) in
-    let p : 2 ^ b ≡ 2 ^ 6 * 2 ^ (b - 6) = ap (2 ^◌) e ∙ pow-add 2 6 (b - 6) in
-    let f = few-families b h in
-    rw s (omega arith, omega arith)
+    go : Dec (6 < b) → (2 ^ b ≤ 64 * 2 ^ (b - 6)) × (2 ^ (b - 6) ≤ 1024)
+    go (yes l) =
+        let e : b ≡ 6 + (b - 6) = omega (arith, l) in
+        let p : 2 ^ b ≡ 2 ^ 6 * 2 ^ (b - 6) = ap (2 ^◌) e ∙ pow-add 2 6 (b - 6) in
+        let f = few-families b h in
+        (omega arith, omega arith)
+    go (no l) =
+        let e : b - 6 ≡ 0 = omega (arith, l) in
+        let p : 2 ^ b ≤ 2 ^ 6 = pow-le-pow_right {n = 2} (omega arith) {i = b} {j = 6} (omega (arith, l)) in
+        rw e (p, omega arith)
 
 -- ---- the clauses of a model are asked only as clauses
 
@@ -138,12 +134,6 @@ module _ (kinds : List ℕ) (sets : List Set) (Cs : List Clause) where
       at f h =
           r.kept f (rw (length-replicate {A = ℕ} k 18446744073709551615) h) ∙ ap (◌&& all_true m f Cs) (every-left k f h) ∙ true_same f
 
--- ---- what the clauses ask
-
-pub small-bits : {literals : List ℤ} {ends : List ℕ} {sets : List Set} {kinds offsets : List ℕ} {u bits : ℕ} → SmallFormula literals ends sets kinds u
-    → LaidOut (declarations kinds sets) offsets → bits ≡ total_bits (declarations kinds sets) → bits ≤ small_bits → SmallBits kinds sets offsets u
-small-bits f laid e h = record { even = f.small.even; laid = laid; few_bits = omega arith; counted = f.counted; few = f.few }
-
 -- ---- parts of arrays
 
 pub part_length : (n k x : ℕ) → n ≤ k → n ≡ length (take n (replicate k x))
@@ -159,20 +149,3 @@ all_left-front n k h = all-part n k h ∙ ap all_left (part_length n k 184467440
 
 pub all_room : (n k a : ℕ) → n ≤ k → a ≤ word_bits * n → a ≤ word_bits * length (take n (all_left k))
 all_room n k a h l = let e = part_length n k 18446744073709551615 h in omega arith
-
--- what was written to the front of an array, and the array's rest
-module _ (out rest S : List ℕ) (n : ℕ) (is : out ≡ S) (count : length S ≡ n) where
-  front : take n (out ++ rest) ≡ S
-  front = rw is (take_at S rest n count)
-
-  pub front-room : n ≤ length (out ++ rest)
-  front-room = rw (length-append out rest, is) (omega arith)
-
-  pub front_length : n ≡ length (take n (out ++ rest))
-  front_length = rw front (sym count)
-
-  pub front-formula : {literals : List ℤ} {ends kinds : List ℕ} {u : ℕ} → SmallFormula literals ends S kinds u → SmallFormula literals ends (take n (out ++ rest)) kinds u
-  front-formula f = rw front f
-
-  pub front-decides : (kinds : List ℕ) (Cs : List Clause) {d : Decision} → d ≡ decide (formula_in kinds (take n (out ++ rest)) Cs) → d ≡ decide (formula_in kinds S Cs)
-  front-decides kinds Cs e = e ∙ ap (λ (sets : List Set). decide (formula_in kinds sets Cs)) front

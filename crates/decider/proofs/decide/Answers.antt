@@ -1,21 +1,15 @@
 -- `decider::decide` meets its contract.
-use Rattle.tables.specs.Tables.{tables_of}
-use Rattle.decider.specs.Decisions.{decision_told}
+use Rattle.std.proofs.lemmas.Result.{err_from_is_err_and}
 use Rattle.decider.proofs.Laws.Outcomes.{decide-refused, formed-asks, decide-told}
 use Rattle.decider.proofs.decide.Goals as goal
 
-pub returns-then-refused-ne0 : goal.returns-then-refused-ne0
-unfolding decision_told
-returns-then-refused-ne0 c =
-    let lent = tables_of c.args.literals.now c.args.ends.now c.args.sets.now c.args.kinds.now in
-    decide-refused lent c.args.state c.first_refusal-refused.ensures c.if-refused-ne0.true
+pub returns-in_err-usable : goal.returns-in_err-usable
+returns-in_err-usable c =
+    let p = err_from_is_err_and c.from_residual.result c.from_residual.ensures.1 in
+    rw (p.1, p.2) (decide-refused _ _ c.in_err-usable.ensures)
 
 pub decide_formed-requires : goal.decide_formed-requires
-decide_formed-requires c =
-    let lent = tables_of c.args.literals.now c.args.ends.now c.args.sets.now c.args.kinds.now in
-    formed-asks lent c.args.state c.first_refusal-refused.ensures c.if-refused-ne0.false
+decide_formed-requires c = formed-asks _ _ c.in_ok-usable.ensures
 
 pub returns : goal.returns
-returns c =
-    let lent = tables_of c.args.literals.now c.args.ends.now c.args.sets.now c.args.kinds.now in
-    decide-told lent c.args.state c.first_refusal-refused.ensures c.if-refused-ne0.false c.decide_formed.ensures
+returns c = decide-told _ _ c.in_ok-usable.ensures c.decide_formed.ensures

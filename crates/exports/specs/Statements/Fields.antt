@@ -8,8 +8,8 @@ use Rattle.dqbf.specs.Spelled.{spelled}
 use Rattle.tables.specs.Tables.{model_in}
 use Rattle.questions.specs.Answers.{length_answer, variable_answer}
 use Rattle.dqdimacs.specs.Loading.{load_of}
-use Rattle.dqdimacs.specs.declared.LoadAnswer.{LoadAnswer}
-use Rattle.dqdimacs.specs.declared.LoadAnswer.TheVariants as Load
+use Rattle.dqdimacs.specs.Loading.{LoadAnswer}
+use Rattle.dqdimacs.specs.Loading as Load
 use Rattle.steps.specs.Steps.{run_of}
 use Rattle.formula_text.specs.Writing.{TextAnswer, text_length, no_text, write_of}
 use Rattle.buffers.specs.Buffers.{Buffers, whole, tables_in, state_in}

@@ -13,6 +13,7 @@ use lib.Dec.{eqb}
 use lib.ListN.{length, get_or, set, length-set, get_or-replicate}
 use lib.Pow.{pow-lt, pow_pos}
 use lib.Seq.{get_or-set_same, get_or-set_other}
+use mir.Val.{bool_byte}
 use Rattle.dqbf.specs.Set.{bit, inside}
 use Rattle.dqbf.proofs.Laws.Tests.{and_left, and_right, both, either, eqb_is, eqb_same, never}
 use Rattle.dqbf.proofs.Laws.Words.{bit-and, bit-or, bit-zero, bit-ext, bit-single, bit-inside, single-inside}
@@ -162,12 +163,19 @@ pub packed_start : (g : ℕ → Bool) → 0 ≡ packed_from 64 g
 unfolding pack
 packed_start g = refl
 
-pub packed_more : (n : ℕ) (g : ℕ → Bool) (b : Bool) → 1 ≤ n → n ≤ 64 → g (n - 1) ≡ b → cond b 1 0 + 2 * packed_from n g ≡ packed_from (n - 1) g
+pub packed_more : (n : ℕ) (g : ℕ → Bool) → 1 ≤ n → n ≤ 64 → bool_byte (g (n - 1)) + 2 * packed_from n g ≡ packed_from (n - 1) g
 unfolding pack
-packed_more n g b low high e =
+packed_more n g low high =
     let q : 64 - (n - 1) ≡ suc (64 - n) = omega arith in
-    rw q (ap₂ (λ (x : Bool) (y : ℕ). cond x 1 0 + 2 * y) (sym e ∙ ap g (omega arith))
+    rw (q, bool-one) (ap₂ (λ (x : Bool) (y : ℕ). cond x 1 0 + 2 * y) (ap g (omega arith))
     (pack-same (64 - n) (λ i. g (n + i)) (λ i. g ((n - 1) + suc i)) (λ i. ap g (omega arith))))
+  where
+    bool-one : bool_byte (g (n - 1)) ≡ cond (g (n - 1)) 1 0
+    bool-one = elim (g (n - 1)) as (λ b. bool_byte b ≡ cond b 1 0) [ true ↦ refl | false ↦ refl ]
+
+pub bit_small : (b : Bool) → bool_byte b ≤ 1
+bit_small true = omega arith
+bit_small false = omega arith
 
 pub packed-fits : (n : ℕ) (g : ℕ → Bool) → 1 ≤ n → 2 * packed_from n g + 1 < 2 ^ 64
 packed-fits n g low =

@@ -1,10 +1,6 @@
-use Prim.Native.Nat.{◌-◌, ◌≤◌}
-use lib.ListN.{length}
+use Prim.Native.Nat.{◌/◌}
 use Rattle.family_bits.proofs.Laws.Left.{Passed}
 use Rattle.family_bits.proofs.keep.Given as goal
 
-abbrev pub invariant-loop-i : goal.invariant-loop-i
-invariant-loop-i l = (l.i ≤ length l.initial.left) × Passed l.high_ones l.high_zeros l.low l.initial.left l.left l.i
-
-abbrev pub decreases-loop-i : goal.decreases-loop-i
-decreases-loop-i l = length l.initial.left - l.i
+abbrev pub invariant-loop-place : goal.invariant-loop-place
+invariant-loop-place l = Passed (l.ones / 64) (l.zeros / 64) l.low l.initial.left l.left l.place

@@ -7,6 +7,6 @@ pub returns-then-ones-number-ne0 : goal.returns-then-ones-number-ne0
 unfolding met
 returns-then-ones-number-ne0 c = rw (ne_eqb _ 0 c.if-ones-number-ne0.true)
 
-pub returns : goal.returns
+pub returns-else-ones-number-ne0 : goal.returns-else-ones-number-ne0
 unfolding met
-returns c = rw (eq-eqb _ 0 c.if-ones-number-ne0.false)
+returns-else-ones-number-ne0 c = rw (eq-eqb _ 0 c.if-ones-number-ne0.false)

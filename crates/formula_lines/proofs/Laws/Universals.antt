@@ -17,7 +17,9 @@ use Rattle.dqbf.specs.Model.{Model, kind_of, set_of, numbers, universals_in}
 use Rattle.dqbf.specs.Spelled.{select, first_of, is_universal, is_at, universal_at, universals_from, is_member, members_of}
 use Rattle.tables.specs.Tables.{entry}
 use Rattle.formula_lines.specs.Working.{declarations, universal_names, is_in, members_in, is_with, universal_with, declared_from}
-use Rattle.formula_lines.proofs.Laws.Walks.{variables-walk, select-taken, select-passed, select-none}
+use Rattle.std.specs.Prelude.{Option, find}
+use Rattle.std.specs.Option.{unwrap_or}
+use Rattle.formula_lines.proofs.Laws.Walks.{found-first, variables-walk, select-taken, select-passed, select-none}
 
 -- ---- two tests, one behind the other
 
@@ -79,6 +81,11 @@ module _ (kinds sets : List ℕ) where
   unfolding universals_from declared_from
   declared-in i zero = refl
   declared-in i (suc n) = ap₂ {C = List ℕ} ◌∷◌ (at_in i) (declared-in (suc i) n)
+
+-- the one that was found, or 0
+pub found-with : (names sets : List ℕ) (s : Set) {o : Option ℕ} {x : ℕ} → x ≡ unwrap_or o 0 → o ≡ find (is_with sets s) names → x ≡ universal_with names sets s
+unfolding universal_with is_with
+found-with names sets s e f = e ∙ ap (λ o. unwrap_or o 0) f ∙ found-first (is_with sets s) names
 
 -- ---- how many there are
 

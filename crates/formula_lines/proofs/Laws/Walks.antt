@@ -1,10 +1,13 @@
 -- Loops over a list of numbers, an item each turn: the first that passes a test, and a text for each that passes it (dqbf's `first_of`, `select`).
 --     Walk                              at turn i the item, and what is left of the list
 --     variables-walk, list-walk         over the variables 1 to n, and over a list
---     first_found, -passed, -none       the first that passes
+--     found-first                       the first that passes, as the library finds it
+--     select-taken, -passed, -none      those that pass
 --     each_fits, -next, -passed, -end   a text for each that passes
-use mathlib.Core.Path.{◌≡◌, sym}
-use mathlib.Core.Bool.{Bool, true, false}
+use mathlib.Core.Path.{◌≡◌, refl, sym}
+use mathlib.Core.Bool.{Bool, true, false, cond}
+use Rattle.std.specs.Prelude.{Some, find}
+use Rattle.std.specs.Option.{unwrap_or}
 use mathlib.Core.List.{List, [], ◌∷◌, ◌++◌, append-nil}
 use Prim.Native.Nat.{ℕ, suc, ◌+◌, ◌-◌, ◌≤◌, ◌<◌}
 use native.Mathlib.Numerals.{add-one}
@@ -33,19 +36,19 @@ list-walk xs = record { split = λ i h. rw (add-one i) (drop-cons xs i 0 h); out
 
 -- ---- the first that passes
 
+-- as the library finds it; 0: none passes
+pub found-first : (P : ℕ → Bool) (xs : List ℕ) → unwrap_or (find P xs) 0 ≡ first_of P xs
+unfolding first_of
+found-first P [] = refl
+found-first P (x ∷ xs) = go (P x) (found-first P xs)
+  where
+    go : (b : Bool) → unwrap_or (find P xs) 0 ≡ first_of P xs → unwrap_or (cond b (Some x) (find P xs)) 0 ≡ cond b x (first_of P xs)
+    go true e = refl
+    go false e = e
+
+-- ---- those that pass
+
 module _ {n : ℕ} {item : ℕ → ℕ} {rest : ℕ → List ℕ} (k : Walk n item rest) (P : ℕ → Bool) (i : ℕ) where
-  pub first_found : i < n → P (item i) ≡ true → first_of P (rest i) ≡ item i
-  unfolding first_of
-  first_found h t = rw (k.split i h, t)
-
-  pub first-passed : i < n → P (item i) ≡ false → first_of P (rest i) ≡ first_of P (rest (i + 1))
-  unfolding first_of
-  first-passed h t = rw (k.split i h, t)
-
-  pub first-none : n ≤ i → first_of P (rest i) ≡ 0
-  unfolding first_of
-  first-none h = rw (k.out i h)
-
   pub select-taken : i < n → P (item i) ≡ true → select P (rest i) ≡ item i ∷ select P (rest (i + 1))
   unfolding select
   select-taken h t = rw (k.split i h, t)

@@ -15,7 +15,7 @@ use borrow.Author.Tests.{leb-true, leb-false}
 use lib.Dec.{eqb, leb}
 use lib.IntN.{ℤ, pos, negsuc, nat_abs}
 use lib.ListN.{length, length-append}
-use Rattle.dqbf.specs.Limits.{tables, variable_limit, universal_limit, clause_limit, literal_limit}
+use Rattle.dqbf.specs.Limits.{tables, variable_limit, clause_limit, literal_limit}
 use Rattle.dqbf.specs.Bytes.{bytes}
 use Rattle.dqbf.specs.Text.{line_feed}
 use Rattle.dqbf.specs.Literal.{Clause, ◌∈◌, total}

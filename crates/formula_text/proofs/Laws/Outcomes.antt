@@ -2,25 +2,26 @@
 use mathlib.Core.Path.{◌≡◌, sym, ◌∙◌, ap}
 use mathlib.Core.Bool.{Bool, true, false}
 use mathlib.Core.List.{List, [], ◌∷◌, ◌++◌}
-use Prim.Native.Nat.{ℕ, ◌+◌, ◌*◌, ◌≤◌}
+use Prim.Native.Nat.{ℕ, ◌*◌, ◌≤◌}
 use native.Mathlib.Omega.{arith}
 use borrow.Author.Tests.{le-ltb, ltb-false}
 use lib.Dec.{ltb}
 use lib.IntN.{ℤ}
 use lib.ListN.{length, take, drop}
 use lib.Seq.{length-take-le, take-take}
-use Rattle.dqbf.specs.Refusal.{refusal, ◌when◌, first}
+use mathlib.Core.Option.{none, some}
+use Rattle.dqbf.specs.Refusal.{Refusal, refusal, ◌when◌, first}
 use Rattle.dqbf.specs.Model.{Model, universals_in, universal_count}
 use Rattle.dqbf.proofs.Laws.Tests.{first_some, first-none}
 use Rattle.tables.specs.declared.State.{State}
 use Rattle.tables.specs.Tables.{Tables, tables_of, cut, model_in}
 use Rattle.tables.specs.WellFormed.{long, well_formed}
-use Rattle.tables.specs.Unusable.{table_tests, unusable, unless_refused, unusable_number}
+use Rattle.tables.specs.Unusable.{table_tests, unusable, unless_refused}
 use Rattle.tables.proofs.Laws.Formed.{Long, Formed, long-is, formed-is}
 use Rattle.tables.proofs.Laws.Lent.{long-words, taken-sets}
 use Rattle.tables.proofs.Laws.Held.{count-universals}
 use Rattle.tables.proofs.Laws.Spread.{valid-held}
-use Rattle.tables.proofs.Laws.Unusable.{usable, first-is, none_lent, none-formed}
+use Rattle.tables.proofs.Laws.Unusable.{usable, none_lent, none-formed}
 use Rattle.dqbf.specs.Spelling.{text}
 use Rattle.dqbf.specs.Spelled.{formula_in, lines_of, spelled}
 use Rattle.sets.specs.Words.{words_each, as_sets}
@@ -114,21 +115,21 @@ module _ (t : Tables) (s : State) (lent : long t ≡ true) (formed : well_formed
 
 -- ---- the outcomes
 
-module _ (t : Tables) (s : State) (out : List ℕ) {n : ℕ} (told : n ≡ unusable_number t s) where
+module _ (t : Tables) (s : State) (out : List ℕ) where
   abbrev T : List ℕ
   T = spelled (model_in t s)
 
-  pub write-refused : (n ≡ 0 → ⊥) → ◌≡◌ {A = AfterWrite} (record { answer = no_text (refusal n); output = out }) (write_of t s out)
+  pub write-refused : {r : Refusal} → some r ≡ unusable t s → ◌≡◌ {A = AfterWrite} (record { answer = no_text r; output = out }) (write_of t s out)
   unfolding write_of write_tests unless_refused unusable
-  write-refused h = rw (first_some (table_tests t s) ((refusal 30 when ltb (length out) (length T)) ∷ []) (refusal n) (first-is t s told h))
+  write-refused {r} e = rw (first_some (table_tests t s) ((refusal 30 when ltb (length out) (length T)) ∷ []) r (sym e))
 
-  module _ (z : n ≡ 0) where
+  module _ (z : none ≡ unusable t s) where
     pub formed-asks : (long t ≡ true) × (well_formed t s ≡ true)
-    formed-asks = (none_lent t s told z, none-formed t s told z)
+    formed-asks = (none_lent t s (sym z), none-formed t s (sym z))
 
     past : first (write_tests t s out) ≡ first ((refusal 30 when ltb (length out) (length T)) ∷ [])
     unfolding write_tests unusable
-    past = first-none (table_tests t s) ((refusal 30 when ltb (length out) (length T)) ∷ []) (usable t s (none_lent t s told z) (none-formed t s told z))
+    past = first-none (table_tests t s) ((refusal 30 when ltb (length out) (length T)) ∷ []) (usable t s formed-asks.0 formed-asks.1)
 
     module _ {short : Bool} (measured : short ≡ ltb (length out) (length T)) where
       pub write-short : short ≡ true → ◌≡◌ {A = AfterWrite} (record { answer = no_text (refusal 30); output = out }) (write_of t s out)

@@ -14,8 +14,8 @@ use Rattle.tables.specs.Unusable.{table_tests, unless_refused}
 use Rattle.tables.specs.WellFormed.{long, well_formed}
 use Rattle.tables.specs.declared.State.{State}
 use Rattle.formula_text.specs.Writing.{TextAnswer, text_length, no_text, write_tests, write_told, in_front, AfterWrite, write_of}
-use Rattle.formula_text.specs.declared.WriteAnswer.{WriteAnswer}
-use Rattle.formula_text.specs.declared.WriteAnswer.TheVariants.{Length}
+use Rattle.std.specs.Prelude.{Result, Ok}
+use Rattle.dqbf.specs.declared.refusal.Refusal as Code
 
 module _ (t : Tables) (s : State) (out : List ℕ) where
   abbrev T : List ℕ
@@ -38,8 +38,8 @@ module _ (t : Tables) (s : State) (out : List ℕ) where
         go true e true f false g = rw (e, f, g) (told e f (ltb-false _ _ g))
 
   -- a text that is written is no longer than its output
-  pub text-inside : {out' : List ℕ} {w : WriteAnswer} (n : ℕ) → ◌≡◌ {A = AfterWrite} (record { answer = write_told w; output = out' }) (write_of t s out) → w ≡ Length n → n ≤ length out'
-  unfolding write_told in_front
+  pub text-inside : {out' : List ℕ} {w : Result ℕ Code.Refusal} (n : ℕ) → ◌≡◌ {A = AfterWrite} (record { answer = write_told w; output = out' }) (write_of t s out) → w ≡ Ok n → n ≤ length out'
+  unfolding in_front
   text-inside {out'} {w} n e q =
       written-by (λ x. ◌≡◌ {A = AfterWrite} (record { answer = text_length n; output = out' }) x → n ≤ length out') (λ k h short d. absurd (never k (ap answered d)))
       (λ lent formed fits d.

@@ -11,6 +11,7 @@ use lib.Dec.{leb, eqb, ltb}
 use lib.IntN.{pos, negsuc}
 use lib.ListN.{length}
 use borrow.Author.Tests.{eq-eqb, ne_eqb, le-leb, lt-leb, lt-ltb, le-ltb, eqb-true, eqb-false, leb-true, ltb-true, ltb-false}
+use Rattle.std.specs.Char.{is_ascii_digit}
 use Rattle.dqbf.specs.Limits.{digit_limit}
 use Rattle.dqbf.specs.Literal.{rank}
 use Rattle.dqbf.specs.Text.{space, minus, onto, pieces, is_empty, all_digits, value_from, number_of, not_zero, variable_of, literal_of, is_zero, prepend, closed}
@@ -58,6 +59,15 @@ in_two true false c h = refl
 in_two false b c h = refl
 
 -- ---- digits
+
+-- as `is_ascii_digit` tests it
+pub digit-is : (b : ℕ) → is_ascii_digit b ≡ true → is_digit b ≡ true
+unfolding is_digit
+digit-is b h = h
+
+pub digit-not : (b : ℕ) → is_ascii_digit b ≡ false → is_digit b ≡ false
+unfolding is_digit
+digit-not b h = h
 
 pub digit_low : (b : ℕ) → is_digit b ≡ true → 48 ≤ b
 unfolding is_digit

@@ -1,21 +1,23 @@
--- A number at a place of a list (`Leading`), from byte to byte: one law for each answer of `minus_of`, `digit_at` and `number_at`.
--- Offers `list_at`, the list from a place on; `list-..`, what one byte makes of a list; `digit-..`, `minus-..`, its front; `number-begins`, `leading-..`, the answers.
-use mathlib.Core.Path.{◌≡◌, refl, sym, ap, ◌∙◌}
-use mathlib.Core.Bool.{Bool, true, false, cond, ◌&&◌, and-false}
+-- A number at a place of a list (`Leading`), from byte to byte: one law for each answer of `first_digit` and `number_at`.
+-- Offers `list_at`, the list from a place on; `list-..`, what one byte makes of a list; `digit-..`, its front; `number-begins`, `leading-..`, the answers.
+use mathlib.Core.Path.{◌≡◌, refl, sym, ap, subst, ◌∙◌}
+use mathlib.Core.Bool.{Bool, true, false, cond, ◌&&◌, and-false, true≢false}
 use mathlib.Core.List.{List, [], ◌∷◌}
 use mathlib.Core.Option.{Option, none, some}
 use Prim.Native.Nat.{ℕ, ◌+◌, ◌-◌, ◌*◌, ◌≤◌, ◌<◌}
 use native.Mathlib.Nat.{add-zero}
 use native.Mathlib.Numerals.{add-one}
 use native.Mathlib.Omega.{arith}
-use lib.Dec.{eqb, ltb}
+use Rattle.std.specs.Prelude.{None, Some}
+use Rattle.std.specs.Int.{from_bool}
+use lib.Dec.{eqb, leb, ltb}
 use lib.ListN.{length, drop, get_or, drop_of_length-le}
 use lib.Seq.{drop-cons}
-use borrow.Author.Tests.{eq-eqb, ne_eqb, lt-ltb, le-ltb, eqb-true, eqb-false, ltb-true, ltb-false}
+use borrow.Author.Tests.{eq-eqb, ne_eqb, le-leb, leb-true, leb-false, lt-ltb, le-ltb, eqb-true, eqb-false, ltb-true, ltb-false}
 use Rattle.dqbf.specs.Text.{space, minus, prepend, closed}
 use Rattle.dqbf.proofs.Laws.Tests.{and_left, and_right}
 use Rattle.tokens.specs.Working.{is_nil, words_of}
-use Rattle.numerals.specs.Working.{entry_of, is_digit, minus_of, digit_of, ranked, Leading}
+use Rattle.numerals.specs.Working.{entry_of, is_digit, minus_of, digit_of, ranked, Led, Leading}
 use Rattle.numerals.proofs.Laws.Bytewise.{may_lead, list_from, list-is, digit_low, digit-high, in_two, no_lead, no_second}
 
 -- the list from a place of a line on
@@ -97,13 +99,32 @@ pub digit-beyond : (line : List ℕ) (i : ℕ) → length line ≤ i → 0 ≡ d
 unfolding digit_of
 digit-beyond line i h = rw (drop_of_length-le line h)
 
-pub digit-here : (line : List ℕ) (i : ℕ) → i < length line → is_digit (get_or line i 0) ≡ true → (d : ℕ) → d ≡ get_or line i 0 - 48 → d ≡ digit_of (drop i line)
-unfolding digit_of
-digit-here line i h k d e = e ∙ rw (drop-cons line i 0 h, k)
+-- the byte there, and what it comes to as a first digit
+module _ (line : List ℕ) (i b : ℕ) (inside : i < length line) (byte : b ≡ get_or line i b) where
+  digit-at : digit_of (drop i line) ≡ cond (is_digit b) (b - 48) 0
+  unfolding digit_of
+  digit-at = rw (drop-cons line i b inside, ← byte)
 
-pub digit-none : (line : List ℕ) (i : ℕ) → i < length line → is_digit (get_or line i 0) ≡ false → 0 ≡ digit_of (drop i line)
-unfolding digit_of
-digit-none line i h k = rw (drop-cons line i 0 h, k)
+  pub digit-here : (leb 49 b && leb b 57) ≡ true → (b - 48 ≡ digit_of (drop i line)) × (0 < b - 48)
+  unfolding is_digit
+  digit-here h =
+      let low = leb-true 49 b (and_left (leb 49 b) (leb b 57) h) in
+      let high = leb-true b 57 (and_right (leb 49 b) (leb b 57) h) in
+      let l : 48 ≤ b = omega arith in
+      (rw (digit-at, le-leb 48 b l, le-leb b 57 high), omega arith)
+
+  either-way : (t : Bool) → 0 ≡ b - 48 → 0 ≡ cond t (b - 48) 0
+  either-way true z = z
+  either-way false z = refl
+
+  pub digit-other : (leb 49 b && leb b 57) ≡ false → 0 ≡ digit_of (drop i line)
+  unfolding is_digit
+  digit-other h = rw (digit-at) (go (leb 49 b) refl (leb b 57) refl)
+    where
+      go : (t : Bool) → leb 49 b ≡ t → (u : Bool) → leb b 57 ≡ u → 0 ≡ cond (leb 48 b && leb b 57) (b - 48) 0
+      go true e true f = absurd (true≢false (sym (rw (e, f)) ∙ h))
+      go true e false f = rw (f, and-false (leb 48 b))
+      go false e u f = let low = leb-false 49 b e in let z : 0 ≡ b - 48 = omega arith in either-way (leb 48 b && leb b 57) z
 
 module _ (line : List ℕ) (i d : ℕ) (e : d ≡ digit_of (drop i line)) where
   pub digit-inside : i < length line → d ≡ cond (is_digit (get_or line i 0)) (get_or line i 0 - 48) 0
@@ -134,13 +155,13 @@ module _ (line : List ℕ) (i d : ℕ) (e : d ≡ digit_of (drop i line)) where
 
 -- ---- the minus at a place
 
-pub minus-there : (signed : Bool) (b : ℕ) → (signed && eqb b minus) ≡ true → 1 ≡ minus_of signed b
+pub minus-is : (signed : Bool) (b m : ℕ) → m ≡ from_bool (signed && eqb b minus) → m ≡ minus_of signed b
 unfolding minus_of
-minus-there signed b h = rw h
-
-pub minus-none : (signed : Bool) (b : ℕ) → (signed && eqb b minus) ≡ false → 0 ≡ minus_of signed b
-unfolding minus_of
-minus-none signed b h = rw h
+minus-is signed b m e = e ∙ go (signed && eqb b minus)
+  where
+    go : (t : Bool) → from_bool t ≡ cond t 1 0
+    go true = refl
+    go false = refl
 
 -- ---- the number at a place: m counts its minus, and d is the first digit behind that
 
@@ -234,8 +255,8 @@ module _ (signed : Bool) (line : List ℕ) (at m : ℕ) (inside : at < length li
           go true f false k true n = missing-here (eqb-true m 0 n) k
           go true f false k false n = let l : m ≡ 0 → ⊥ = eqb-false m 0 n in missing-led (ltb-true first (length line) f) (omega arith) k
 
-    pub leading-missing : d ≡ 0 → Leading signed line at (record { number = 0; next = at })
-    leading-missing z = record { found = λ h. absurd (omega arith); missing = λ n apart more. number-missing z apart more }
+    pub leading-missing : d ≡ 0 → Leading signed line at None
+    leading-missing z = record { found = λ t h. cc; missing = λ n apart more. number-missing z apart more }
 
 -- ---- answers
 
@@ -246,31 +267,31 @@ ranked-some false v m h = h
 
 -- the list from `at` on comes to what is left at i
 module _ (signed : Bool) (line : List ℕ) (at i v m : ℕ) (so_far : list_at signed line at ≡ list_from signed v m (drop i line)) where
-  leading-none : list_at signed line at ≡ none → Leading signed line at (record { number = 0; next = at })
-  leading-none e = record { found = λ h. absurd (omega arith); missing = λ n apart more. e }
+  leading-none : list_at signed line at ≡ none → Leading signed line at None
+  leading-none e = record { found = λ t h. cc; missing = λ n apart more. e }
 
-  pub leading_end : length line ≤ i → Leading signed line at (record { number = 0; next = at })
+  pub leading_end : length line ≤ i → Leading signed line at None
   leading_end h = leading-none (list-end signed line i v m (list_at signed line at) so_far h)
 
   module _ (inside : i < length line) (there : 0 < v) where
-    pub leading-found : at < i → get_or line i 0 ≡ space → (x : ℕ) → x ≡ ranked signed v m → Leading signed line at (record { number = x; next = i + 1 })
+    pub leading-found : at < i → get_or line i 0 ≡ space → (x : ℕ) → x ≡ ranked signed v m → Leading signed line at (Some (record { number = x; next = i + 1 }))
     leading-found h s x e =
-        let Some-number = ranked-some signed v m there in
+        let positive = ranked-some signed v m there in
+        let led : Led signed line at (record { number = x; next = i + 1 }) =
         record {
-          found = λ n. (
-            omega arith,
-            omega arith,
-            list-number signed line i v m (list_at signed line at) so_far inside s there
-                ∙ rw (e) (ap (prepend (some (ranked signed v m))) (sym (list-is signed (drop (i + 1) line)))),
-          );
-          missing = λ n. absurd (omega arith);
-        }
+          positive = omega arith;
+          low = omega arith;
+          high = omega arith;
+          list = list-number signed line i v m (list_at signed line at) so_far inside s there
+              ∙ rw (e) (ap (prepend (some (ranked signed v m))) (sym (list-is signed (drop (i + 1) line))));
+        } in
+        record { found = λ t k. let same : record { number = x; next = i + 1 } ≡ t = cc in subst (Led signed line at) same led; missing = λ k. cc }
 
-    pub leading-bad : is_digit (get_or line i 0) ≡ false → (get_or line i 0 ≡ space → ⊥) → Leading signed line at (record { number = 0; next = at })
+    pub leading-bad : is_digit (get_or line i 0) ≡ false → (get_or line i 0 ≡ space → ⊥) → Leading signed line at None
     leading-bad other apart = leading-none (list-bad signed line i v m (list_at signed line at) so_far inside other apart there)
 
     module _ (d : ℕ) (e : d ≡ get_or line i 0 - 48) (digit : is_digit (get_or line i 0) ≡ true) where
-      pub leading-long : 100000 ≤ v * 10 + d → Leading signed line at (record { number = 0; next = at })
+      pub leading-long : 100000 ≤ v * 10 + d → Leading signed line at None
       leading-long h = leading-none (list-long signed line i v m (list_at signed line at) so_far inside d e digit h)
 
       pub leading-digit : v * 10 + d < 100000 → list_at signed line at ≡ list_from signed (v * 10 + d) m (drop (i + 1) line)

@@ -1,34 +1,30 @@
 -- Tokens as numbers: one law for each answer of the functions of `number`.
 use mathlib.Core.Path.{◌≡◌, refl, ◌∙◌}
-use mathlib.Core.Bool.{Bool, true, false, cond, not, ◌&&◌, ◌||◌}
+use mathlib.Core.Bool.{Bool, true, false, cond, not, ◌&&◌, ◌||◌, and-false}
 use mathlib.Core.List.{List, [], ◌∷◌}
 use mathlib.Core.Option.{Option, none, some}
 use Prim.Native.Nat.{ℕ, suc, ◌+◌, ◌-◌, ◌*◌, ◌^◌, ◌≤◌, ◌<◌}
-use native.Mathlib.Nat.{not-suc-le-zero, suc-ne-zero, le_of_suc-le-suc, pow-suc, pow-le-pow_right}
+use native.Mathlib.Nat.{not-suc-le-zero, le_of_suc-le-suc, pow-suc, pow-le-pow_right}
 use native.Mathlib.Numerals.{add-one}
 use native.Mathlib.Omega.{arith}
 use lib.Dec.{leb, eqb, lit<}
 use lib.ListN.{length, drop, get_or, drop_of_length-le}
 use lib.Seq.{drop-cons}
 use borrow.Author.Tests.{eq-eqb, ne_eqb, le-leb, lt-leb}
+use Rattle.std.specs.Char.{is_ascii_digit}
 use Rattle.dqbf.specs.Limits.{digit_limit}
 use Rattle.dqbf.specs.Text.{is_empty, all_digits, value_from, number_of}
 use Rattle.numerals.specs.Working.{digits_from}
 
 -- ---- digits
 
-pub digits_low : (v : ℕ) (w : List ℕ) (i : ℕ) → i < length w → get_or w i 0 < 48 → digits_from v (drop i w) ≡ none
+pub digits-other : (v : ℕ) (w : List ℕ) (i : ℕ) → i < length w → is_ascii_digit (get_or w i 0) ≡ false → digits_from v (drop i w) ≡ none
 unfolding digits_from all_digits
-digits_low v w i h k = rw (drop-cons w i 0 h, lt-leb _ _ k)
+digits-other v w i h k = rw (drop-cons w i 0 h, k)
 
-pub digits-high : (v : ℕ) (w : List ℕ) (i : ℕ) → i < length w → 48 ≤ get_or w i 0 → 57 < get_or w i 0 → digits_from v (drop i w) ≡ none
-unfolding digits_from all_digits
-digits-high v w i h j k = rw (drop-cons w i 0 h, le-leb _ _ j, lt-leb _ _ k)
-
-pub digits_more : (v : ℕ) (w : List ℕ) (i : ℕ) → i < length w → 48 ≤ get_or w i 0 → get_or w i 0 ≤ 57
-    → digits_from v (drop i w) ≡ digits_from (v * 10 + (get_or w i 0 - 48)) (drop (i + 1) w)
+pub digits_more : (v : ℕ) (w : List ℕ) (i : ℕ) → i < length w → is_ascii_digit (get_or w i 0) ≡ true → digits_from v (drop i w) ≡ digits_from (v * 10 + (get_or w i 0 - 48)) (drop (i + 1) w)
 unfolding digits_from all_digits value_from
-digits_more v w i h j k = rw (add-one, drop-cons w i 0 h, le-leb _ _ j, le-leb _ _ k)
+digits_more v w i h k = rw (add-one, drop-cons w i 0 h, k)
 
 pub digits-end : (v : ℕ) (w : List ℕ) (i : ℕ) → length w ≤ i → digits_from v (drop i w) ≡ some v
 unfolding digits_from all_digits value_from
@@ -56,28 +52,29 @@ number_is b bs = go (all_digits (b ∷ bs)) (leb (suc (length bs)) digit_limit) 
     go false true false v = refl
     go false false y v = refl
 
-pub number-empty : (w : List ℕ) → length w ≡ 0 → number_of w ≡ none
+pub number-empty : (w : List ℕ) → length w < 1 → number_of w ≡ none
 unfolding number_of
 number-empty [] h = refl
-number-empty (b ∷ bs) h = absurd (suc-ne-zero _ h)
+number-empty (b ∷ bs) h = absurd (omega arith)
 
 pub number-long : (w : List ℕ) → digit_limit < length w → number_of w ≡ none
 unfolding number_of
 number-long [] h = refl
 number-long (b ∷ bs) h = number_is b bs ∙ rw (lt-leb (suc (length bs)) digit_limit h)
 
-pub number-plain : (w : List ℕ) → (length w ≡ 0 → ⊥) → length w ≤ digit_limit → (get_or w 0 0 ≡ 48 → ⊥) → number_of w ≡ digits_from 0 w
-number-plain [] n h k = absurd (n refl)
-number-plain (b ∷ bs) n h k = number_is b bs ∙ rw (le-leb (suc (length bs)) digit_limit h, ne_eqb b 48 k)
-
-pub number-zeros : (w : List ℕ) → length w ≤ digit_limit → get_or w 0 0 ≡ 48 → 1 < length w → number_of w ≡ none
+pub number-zeros : (w : List ℕ) → get_or w 0 0 ≡ 48 → 1 < length w → number_of w ≡ none
 unfolding number_of is_empty
-number-zeros [] h k l = refl
-number-zeros (b ∷ []) h k l = absurd (not-suc-le-zero (le_of_suc-le-suc l))
-number-zeros (b ∷ d ∷ ds) h k l = number_is b (d ∷ ds) ∙ rw (le-leb (suc (length (d ∷ ds))) digit_limit h, eq-eqb b 48 k)
+number-zeros [] k l = refl
+number-zeros (b ∷ []) k l = absurd (not-suc-le-zero (le_of_suc-le-suc l))
+number-zeros (b ∷ d ∷ ds) k l = number_is b (d ∷ ds) ∙ rw (eq-eqb b 48 k, and-false (leb (suc (length (d ∷ ds))) digit_limit))
 
-pub number-zero : (w : List ℕ) → (length w ≡ 0 → ⊥) → get_or w 0 0 ≡ 48 → length w ≤ 1 → number_of w ≡ digits_from 0 w
+-- no leading zero
+pub number-digits : (w : List ℕ) → (length w < 1 → ⊥) → length w ≤ digit_limit → (get_or w 0 0 ≡ 48 → 1 < length w → ⊥) → number_of w ≡ digits_from 0 w
 unfolding is_empty
-number-zero [] n k l = absurd (n refl)
-number-zero (b ∷ []) n k l = number_is b [] ∙ rw (eq-eqb b 48 k)
-number-zero (b ∷ d ∷ ds) n k l = absurd (not-suc-le-zero (le_of_suc-le-suc l))
+number-digits [] n h k = absurd (n (omega arith))
+number-digits (b ∷ []) n h k = number_is b [] ∙ rw (le-leb 1 digit_limit h) (go (eqb b 48))
+  where
+    go : (t : Bool) → cond (not t || true) (digits_from 0 (b ∷ [])) none ≡ digits_from 0 (b ∷ [])
+    go true = refl
+    go false = refl
+number-digits (b ∷ d ∷ ds) n h k = number_is b (d ∷ ds) ∙ rw (le-leb (suc (length (d ∷ ds))) digit_limit h, ne_eqb b 48 (λ z. k z (omega arith)))

@@ -1,6 +1,6 @@
 -- The prefix lines: one law for each return of `existential_line`, `dependent_line` and `universal_line`.
 --     e-late, e-read                       an `e` line
---     d-late, d-stranger, d-refused, d-read      a `d` line
+--     d-late, d-stranger, d-read           a `d` line
 --     a-late, a-over, a-repeated, a_read         an `a` line
 --     universals-told, union-told                what the rows say of variables
 -- Assumes nothing.
@@ -8,31 +8,31 @@ use mathlib.Core.Path.{◌≡◌, refl, ap, ap₂, sym, ◌∙◌}
 use mathlib.Core.Bool.{Bool, true, false, cond, not, ◌&&◌, ◌||◌}
 use mathlib.Core.List.Memᴰ
 use mathlib.Core.List.{List, [], ◌∷◌, ◌++◌, map, append-nil}
-use mathlib.Core.Option.{none}
+use mathlib.Core.Logic.{◌⊎◌, inl, inr}
+use mathlib.Core.Option.{Option, none, some}
 use Prim.Native.Nat.{ℕ, ◌+◌, ◌-◌, ◌≤◌, ◌<◌, min}
 use native.Mathlib.Omega.{arith}
-use borrow.Author.Tests.{lt-ltb, le-ltb, not-true, not-false}
+use borrow.Author.Tests.{lt-ltb, le-ltb}
 use lib.Dec.{ltb}
 use lib.ListN.{length, take, set, length-append}
-use lib.Seq.{take-length, length-take-le}
+use lib.Seq.{length-take-le}
 use Rattle.dqbf.specs.Limits.{universal_limit}
-use Rattle.dqbf.specs.Refusal.{refusal, first}
+use Rattle.dqbf.specs.Refusal.{Refusal, refusal, first}
 use Rattle.dqbf.specs.Literal.{◌∈◌}
 use Rattle.dqbf.specs.Set.{Set, single, union}
 use Rattle.dqbf.specs.Formula.{on_a, on_d, universals, universals_of, declared, var}
 use Rattle.dqbf.specs.Model.{place, word_of, kind_for, set_for}
 use Rattle.dqbf.specs.Reading.{a_line, e_line, d_line, prefix_lines, Reader, takes_prefix, elem, all_in, different, fresh, undeclarable, line_tests, declaring, taken}
-use Rattle.dqbf.proofs.Laws.Tests.{and_left, and_right, eqb_is, never, pass, no-not, no_or, or_left, or_right}
+use Rattle.dqbf.proofs.Laws.Tests.{either, and_left, and_right, eqb_is, never, pass, no-not, no_or, or_left, or_right}
 use Rattle.dqbf.proofs.Reading.Lines.{new_on, universals-append, universals-a}
 use Rattle.ranks.specs.Order.{all_inserted, Arranged}
 use Rattle.ranks.proofs.Laws.Insertion.{all-grows}
 use Rattle.ranks.proofs.Laws.Sorting.{universals-count, universals-front}
 use Rattle.tables.specs.Tables.{Tables, rows_of, entry}
 use Rattle.tables.specs.WellFormed.{all_of}
-use Rattle.prefix_lines.specs.Rows.{declarable, is_universal, union_of}
-use Rattle.prefix_lines.specs.Lines.{refusal_of, on_line, ReadSoFar, Known, LineRead, DeclaredAll}
-use Rattle.prefix_lines.specs.declared.progress.Progress.{Progress}
-use Rattle.prefix_lines.specs.declared.progress.LineAnswer.{LineAnswer}
+use Rattle.prefix_lines.specs.Rows.{declarable, unless_12, Declared, is_universal, union_of}
+use Rattle.prefix_lines.specs.Lines.{Carried, on_line, ReadSoFar, Known, LineRead, DeclaredAll}
+use Rattle.prefix_lines.specs.declared.progress.Phase.TheVariants.{PrefixLines}
 use Rattle.prefix_lines.proofs.Laws.Variables.{subject, made, kind-universal, set-universal}
 use Rattle.prefix_lines.proofs.Laws.Models.{kind-entry, set-entry}
 use Rattle.prefix_lines.proofs.Laws.Reading.{phase-is, phase-prefix, phase-other, universals-is, framed, kinds-front, sets-front}
@@ -50,7 +50,7 @@ module _ (r : Reader) where
   abbrev us : List ℕ
   us = universals r.formula
 
-module _ {t : Tables} {r : Reader} {p : Progress} {now : Tables} (h : ReadSoFar t r p now) where
+module _ {t : Tables} {r : Reader} {p : Carried} {now : Tables} (h : ReadSoFar t r p now) where
   universal-told : (x : ℕ) → is_universal (take p.state.bound.0 now.kinds) x ≡ elem x (us r)
   unfolding is_universal
   universal-told x = rw (kinds-front h, kind-entry r h.sane x) (kind-universal r.formula x h.sane.once)
@@ -73,106 +73,115 @@ module _ {t : Tables} {r : Reader} {p : Progress} {now : Tables} (h : ReadSoFar 
 
   -- ---- an `e` line
 
-  late : (p.phase ≡ 1 → ⊥) → not (takes_prefix r.phase) ≡ true
+  late : (p.phase ≡ PrefixLines → ⊥) → not (takes_prefix r.phase) ≡ true
   late n = rw (phase-other r (phase-is h) n)
 
-  pub e-late : (p.phase ≡ 1 → ⊥) → (xs : List ℕ) → LineRead t r (e_line xs) (record { progress = p; refusal = 10 }) now
+  pub e-late : (p.phase ≡ PrefixLines → ⊥) → (xs : List ℕ) → LineRead t r (e_line xs) (some (refusal 10)) p now
   unfolding line_tests
-  e-late n xs = line_refused 10 (omega arith) (framed h) (test-fails 10 _ _ (omega arith) (late n))
+  e-late n xs = line_refused (refusal 10) (framed h) (test-fails (refusal 10) _ _ (late n))
 
-  pub e-read : p.phase ≡ 1 → (xs : List ℕ) {a : LineAnswer} {now' : Tables} → (r.phase ≡ prefix_lines → DeclaredAll false xs t r a now') → LineRead t r (e_line xs) a now'
+  pub e-read : p.phase ≡ PrefixLines → (xs : List ℕ) {a : Option Refusal} {p' : Carried} {now' : Tables} → (r.phase ≡ prefix_lines → DeclaredAll false xs t r a p' now') → LineRead t r (e_line xs) a p' now'
   unfolding line_tests undeclarable taken on_line
   e-read e xs call =
       let inside = phase-prefix r (phase-is h) e in
       let d = call inside in
       record {
-        told = test-passes (refusal 10) _ _ (inside-prefix inside) ∙ test-last 12 (fresh r.formula.bound (declared r.formula.prefix) xs) (omega arith) ∙ ap refusal_of (sym d.told);
+        told = test-passes (refusal 10) _ _ (inside-prefix inside) ∙ test-last (fresh r.formula.bound (declared r.formula.prefix) xs) ∙ sym d.told;
         held = d.held;
         framed = d.framed;
       }
 
   -- ---- a `d` line
 
-  pub d-late : (p.phase ≡ 1 → ⊥) → (x : ℕ) (S : List ℕ) → LineRead t r (d_line x S) (record { progress = p; refusal = 10 }) now
+  pub d-late : (p.phase ≡ PrefixLines → ⊥) → (x : ℕ) (S : List ℕ) → LineRead t r (d_line x S) (some (refusal 10)) p now
   unfolding line_tests
-  d-late n x S = line_refused 10 (omega arith) (framed h) (test-fails 10 _ _ (omega arith) (late n))
+  d-late n x S = line_refused (refusal 10) (framed h) (test-fails (refusal 10) _ _ (late n))
 
-  module _ (e : p.phase ≡ 1) (x : ℕ) (S : List ℕ) where
+  module _ (e : p.phase ≡ PrefixLines) (x : ℕ) (S : List ℕ) where
     abbrev inside : r.phase ≡ prefix_lines
     inside = phase-prefix r (phase-is h) e
 
-    d-12 : (undeclarable r.formula (x ∷ []) || not (all_in (us r) S)) ≡ true → LineRead t r (d_line x S) (record { progress = p; refusal = 12 }) now
+    d-12 : (undeclarable r.formula (x ∷ []) || not (all_in (us r) S)) ≡ true → LineRead t r (d_line x S) (some (refusal 12)) p now
     unfolding line_tests
-    d-12 q = line_refused 12 (omega arith) (framed h) (test-passes (refusal 10) _ _ (inside-prefix inside) ∙ test-fails 12 _ _ (omega arith) q)
+    d-12 q = line_refused (refusal 12) (framed h) (test-passes (refusal 10) _ _ (inside-prefix inside) ∙ test-fails (refusal 12) _ _ q)
 
-    module _ {b : Bool} (members : b ≡ all_of (is_universal (take p.state.bound.0 now.kinds)) S) where
-      pub d-stranger : not b ≡ true → LineRead t r (d_line x S) (record { progress = p; refusal = 12 }) now
-      d-stranger n = d-12 (or_right (undeclarable r.formula (x ∷ [])) (not (all_in (us r) S)) (rw (← universals-told S, ← members) n))
+    pub d-stranger : all_of (is_universal (take p.state.bound.0 now.kinds)) S ≡ false → LineRead t r (d_line x S) (some (refusal 12)) p now
+    d-stranger n = d-12 (or_right (undeclarable r.formula (x ∷ [])) (not (all_in (us r) S)) (rw (← universals-told S, n)))
 
-      module _ (all : not b ≡ false) {s : Set} (word : s ≡ union_of (take p.state.bound.0 now.sets) S) (some : x ≡ 0 → ⊥) {a : Bool}
-          (told : a ≡ declarable p.state.bound.0 now.kinds x) where
-        is-fresh : a ≡ fresh r.formula.bound (declared r.formula.prefix) (x ∷ [])
-        is-fresh = told ∙ declarable-told h x some
+    module _ (all : all_of (is_universal (take p.state.bound.0 now.kinds)) S ≡ true) {s : Set} (word : s ≡ union_of (take p.state.bound.0 now.sets) S) (some-x : x ≡ 0 → ⊥) where
+      abbrev a : Bool
+      a = declarable p.state.bound.0 now.kinds x
 
-        pub d-refused : not a ≡ true → {sets spare kinds : List ℕ} → sets ≡ cond a (set now.sets (x - 1) s) now.sets → spare ≡ now.spare → kinds ≡ cond a (set now.kinds (x - 1) 2) now.kinds
-            → LineRead t r (d_line x S) (record { progress = p; refusal = 12 }) (rows_of now.literals now.ends sets spare kinds)
-        unfolding undeclarable
-        d-refused n m o k = rw (rw (not-true a n) at m, o, rw (not-true a n) at k) (d-12 (or_left (not (fresh r.formula.bound (declared r.formula.prefix) (x ∷ []))) (not (all_in (us r) S)) (rw (← is-fresh) n)))
+      is-fresh : a ≡ fresh r.formula.bound (declared r.formula.prefix) (x ∷ [])
+      is-fresh = declarable-told h x some-x
 
-        module _ (new : not a ≡ false) where
-          ok : fresh r.formula.bound (declared r.formula.prefix) (x ∷ []) ≡ true
-          ok = sym is-fresh ∙ not-false a new
+      d-refused : a ≡ false → {sets spare kinds : List ℕ} → sets ≡ cond a (set now.sets (x - 1) s) now.sets → spare ≡ now.spare → kinds ≡ cond a (set now.kinds (x - 1) 2) now.kinds
+          → LineRead t r (d_line x S) (some (refusal 12)) p (rows_of now.literals now.ends sets spare kinds)
+      unfolding undeclarable
+      d-refused n m o k = rw (rw n at m, o, rw n at k) (d-12 (or_left (not (fresh r.formula.bound (declared r.formula.prefix) (x ∷ []))) (not (all_in (us r) S)) (rw (← is-fresh, n))))
 
-          known : all_in (us r) S ≡ true
-          known = sym (universals-told S) ∙ sym members ∙ not-false b all
+      module _ (new : a ≡ true) where
+        ok : fresh r.formula.bound (declared r.formula.prefix) (x ∷ []) ≡ true
+        ok = sym is-fresh ∙ new
 
-          passes : first (line_tests r (d_line x S)) ≡ none
-          unfolding line_tests undeclarable
-          passes =
-              pass _ _ _ (inside-prefix inside)
-              (pass _ _ _ (no_or (not (fresh r.formula.bound (declared r.formula.prefix) (x ∷ []))) (not (all_in (us r) S)) (no-not _ ok) (no-not _ known)) no-tests)
+        known : all_in (us r) S ≡ true
+        known = sym (universals-told S) ∙ all
 
-          positive : (y : ℕ) → y ∈ x ∷ [] → y ≡ 0 → ⊥
-          positive y q z = some (sym (Memᴰ.eq_of_singleton q) ∙ z)
+        passes : first (line_tests r (d_line x S)) ≡ none
+        unfolding line_tests undeclarable
+        passes =
+            pass _ _ _ (inside-prefix inside)
+            (pass _ _ _ (no_or (not (fresh r.formula.bound (declared r.formula.prefix) (x ∷ []))) (not (all_in (us r) S)) (no-not _ ok) (no-not _ known)) no-tests)
 
-          low : x ≤ r.formula.bound
-          low = fresh-low r.formula.bound (declared r.formula.prefix) x ok
+        positive : (y : ℕ) → y ∈ x ∷ [] → y ≡ 0 → ⊥
+        positive y q z = some-x (sym (Memᴰ.eq_of_singleton q) ∙ z)
 
-          apart : elem x (declared r.formula.prefix) ≡ false
-          apart = fresh-new r.formula.bound (declared r.formula.prefix) x ok
+        low : x ≤ r.formula.bound
+        low = fresh-low r.formula.bound (declared r.formula.prefix) x ok
 
-          pub d-read : {sets spare kinds : List ℕ} → sets ≡ cond a (set now.sets (x - 1) s) now.sets → spare ≡ now.spare → kinds ≡ cond a (set now.kinds (x - 1) 2) now.kinds
-              → LineRead t r (d_line x S) (record { progress = p; refusal = 0 }) (rows_of now.literals now.ends sets spare kinds)
-          unfolding taken subject made set_for kind_for universals_of new_on refusal_of
-          d-read m o k =
-              let own : s ≡ word_of (us r ++ []) S = word ∙ union-told S known ∙ ap (λ (l : List ℕ). word_of l S) (sym (append-nil (us r))) in
-              line_taken passes
-              (read-declared h (on_d x S) (d_line x S) refl passes positive some low apart
-              (progress-other h (on_d x S) (d_line x S) refl passes positive some low apart refl inside) (rw (not-false a new) at m ∙ rw own) o (rw (not-false a new) at k))
+        apart : elem x (declared r.formula.prefix) ≡ false
+        apart = fresh-new r.formula.bound (declared r.formula.prefix) x ok
+
+        d-taken : {sets spare kinds : List ℕ} → sets ≡ cond a (set now.sets (x - 1) s) now.sets → spare ≡ now.spare → kinds ≡ cond a (set now.kinds (x - 1) 2) now.kinds
+            → LineRead t r (d_line x S) none p (rows_of now.literals now.ends sets spare kinds)
+        unfolding taken subject made set_for kind_for universals_of new_on
+        d-taken m o k =
+            let own : s ≡ word_of (us r ++ []) S = word ∙ union-told S known ∙ ap (λ (l : List ℕ). word_of l S) (sym (append-nil (us r))) in
+            line_taken passes
+            (read-declared h (on_d x S) (d_line x S) refl passes positive some-x low apart
+            (progress-other h (on_d x S) (d_line x S) refl passes positive some-x low apart refl inside) (rw new at m ∙ rw own) o (rw new at k))
+
+      pub d-read : {A : Option Refusal} {sets spare kinds : List ℕ} → spare ≡ now.spare → Declared p.state.bound.0 x 2 s now.sets now.kinds A sets kinds
+          → LineRead t r (d_line x S) A p (rows_of now.literals now.ends sets spare kinds)
+      d-read {A} {sets} {spare} {kinds} o d = rw d.told (go (either a))
+        where
+          go : (a ≡ true) ⊎ (a ≡ false) → LineRead t r (d_line x S) (unless_12 a) p (rows_of now.literals now.ends sets spare kinds)
+          go (inl new) = rw (ap unless_12 new) (d-taken new d.sets-are o d.kinds-are)
+          go (inr old) = rw (ap unless_12 old) (d-refused old d.sets-are o d.kinds-are)
 
   -- ---- an `a` line
 
-  pub a-late : (p.phase ≡ 1 → ⊥) → (xs : List ℕ) → LineRead t r (a_line xs) (record { progress = p; refusal = 10 }) now
+  pub a-late : (p.phase ≡ PrefixLines → ⊥) → (xs : List ℕ) → LineRead t r (a_line xs) (some (refusal 10)) p now
   unfolding line_tests
-  a-late n xs = line_refused 10 (omega arith) (framed h) (test-fails 10 _ _ (omega arith) (late n))
+  a-late n xs = line_refused (refusal 10) (framed h) (test-fails (refusal 10) _ _ (late n))
 
-  module _ (e : p.phase ≡ 1) (xs known : List ℕ) (knows : Known r known) (n : ℕ) (out : List ℕ)
-      (arranged : Arranged (all_inserted (take p.state.universals known) (take (length xs) xs)) universal_limit n out) where
+  module _ (e : p.phase ≡ PrefixLines) (xs known : List ℕ) (knows : Known r known) (n : ℕ) (out : List ℕ)
+      (arranged : Arranged (all_inserted (take p.state.universals known) xs) universal_limit n out) where
     abbrev within : r.phase ≡ prefix_lines
     within = phase-prefix r (phase-is h) e
 
     put : Arranged (all_inserted (all_inserted [] (us r)) xs) universal_limit n out
-    put = rw (universals-is h, knows, take-length xs) at arranged
+    put = rw (universals-is h, knows) at arranged
 
     counted : n ≡ min (length (different (us r ++ xs))) (universal_limit + 1)
     counted = universals-count (us r) xs universal_limit n out put
 
     -- 11: more than 256 different numbers
-    pub a-over : universal_limit < n → LineRead t r (a_line xs) (record { progress = p; refusal = 11 }) now
+    pub a-over : universal_limit < n → LineRead t r (a_line xs) (some (refusal 11)) p now
     unfolding line_tests
     a-over w =
-        line_refused 11 (omega arith) (framed h)
-        (test-passes (refusal 10) _ _ (inside-prefix within) ∙ test-fails 11 _ _ (omega arith) (lt-ltb universal_limit (length (different (us r ++ xs))) (omega (arith, counted))))
+        line_refused (refusal 11) (framed h)
+        (test-passes (refusal 10) _ _ (inside-prefix within) ∙ test-fails (refusal 11) _ _ (lt-ltb universal_limit (length (different (us r ++ xs))) (omega (arith, counted))))
 
     module _ (few : n ≤ universal_limit) where
       total : n ≡ length (different (us r ++ xs))
@@ -182,30 +191,30 @@ module _ {t : Tables} {r : Reader} {p : Progress} {now : Tables} (h : ReadSoFar 
       eleven = le-ltb universal_limit (length (different (us r ++ xs))) (omega (arith, total))
 
       -- 12: a number stands twice on the line, or is a universal already
-      pub a-repeated : (n - p.state.universals ≡ length xs → ⊥) → LineRead t r (a_line xs) (record { progress = p; refusal = 12 }) now
+      pub a-repeated : (n - p.state.universals ≡ length xs → ⊥) → LineRead t r (a_line xs) (some (refusal 12)) p now
       unfolding line_tests undeclarable
       a-repeated d =
           let stale : fresh r.formula.bound (declared r.formula.prefix) xs ≡ false =
           never _ (λ k. d (omega (arith, many-fresh r.formula.bound r.formula.prefix xs h.sane.once k, total, universals-is h))) in
-          line_refused 12 (omega arith) (framed h)
-          (test-passes (refusal 10) _ _ (inside-prefix within) ∙ test-passes (refusal 11) _ _ eleven ∙ test-fails 12 _ _ (omega arith) (rw stale))
+          line_refused (refusal 12) (framed h)
+          (test-passes (refusal 10) _ _ (inside-prefix within) ∙ test-passes (refusal 11) _ _ eleven ∙ test-fails (refusal 12) _ _ (rw stale))
 
-      module _ (all : n - p.state.universals ≡ length xs) {a : LineAnswer} {now' : Tables} (call : r.phase ≡ prefix_lines → DeclaredAll true xs t r a now') where
-        pub a_read : LineRead t r (a_line xs) a now'
+      module _ (all : n - p.state.universals ≡ length xs) {a : Option Refusal} {p' : Carried} {now' : Tables} (call : r.phase ≡ prefix_lines → DeclaredAll true xs t r a p' now') where
+        pub a_read : LineRead t r (a_line xs) a p' now'
         unfolding line_tests undeclarable taken on_line
         a_read =
             let d = call within in
             record {
               told = test-passes (refusal 10) _ _ (inside-prefix within) ∙ test-passes (refusal 11) _ _ eleven
-                  ∙ test-last 12 (fresh r.formula.bound (declared r.formula.prefix) xs) (omega arith) ∙ ap refusal_of (sym d.told);
+                  ∙ test-last (fresh r.formula.bound (declared r.formula.prefix) xs) ∙ sym d.told;
               held = d.held;
               framed = d.framed;
             }
 
-        pub a-known : a.refusal ≡ 0 → Known (taken r (a_line xs)) out
+        pub a-known : a ≡ none → Known (taken r (a_line xs)) out
         unfolding taken declaring
         a-known z =
-            let ok = passed-told (fresh r.formula.bound (declared r.formula.prefix) xs) (call within).told z in
+            let ok = passed-told (fresh r.formula.bound (declared r.formula.prefix) xs) (sym z ∙ (call within).told) in
             let grown : universals_of (r.formula.prefix ++ map on_a xs) ≡ us r ++ xs = universals-append r.formula.prefix (map on_a xs) ∙ ap (us r ++◌) (universals-a xs) in
             let long : length (us r ++ xs) ≡ n = length-append (us r) xs ∙ sym (total ∙ many-fresh r.formula.bound r.formula.prefix xs h.sane.once ok) in
             rw (grown, long) (universals-front (us r) xs universal_limit n out put few)

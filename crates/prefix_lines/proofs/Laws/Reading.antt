@@ -2,6 +2,7 @@
 --     counts_of, model-state                    the state of a model that is read
 --     bound-is, universals-is, ..              the counts
 --     kinds-front, sets-front, ..              the entries in use
+--     same-room, room-then, long-kept           tables that are as long as before
 --     long-now, framed                         the tables are long enough, and their entries past the stated sizes as they were
 -- Assumes nothing.
 use mathlib.Core.Path.{◌≡◌, refl, ap, sym, ◌∙◌}
@@ -23,9 +24,11 @@ use Rattle.tables.specs.Spread.{flat, ends_from, over, spread, state_of, kind_ro
 use Rattle.tables.specs.declared.State.{State}
 use Rattle.tables.proofs.Laws.Cuts.{flat-length, ends-length}
 use Rattle.tables.proofs.Laws.Rows.{over-length, over-take, over-over}
-use Rattle.tables.proofs.Laws.Formed.{Long, long-is}
-use Rattle.prefix_lines.specs.Lines.{phase_number, progress_of, ReadSoFar, Framed}
-use Rattle.prefix_lines.specs.declared.progress.Progress.{Progress}
+use Rattle.tables.specs.WellFormed.{long}
+use Rattle.tables.proofs.Laws.Formed.{Long, long-is, long-to}
+use Rattle.prefix_lines.specs.Lines.{Carried, phase_told, carried_of, ReadSoFar, Framed, SameRoom}
+use Rattle.prefix_lines.specs.declared.progress.Phase as Code
+use Rattle.prefix_lines.specs.declared.progress.Phase.TheVariants.{Opening, PrefixLines}
 use Rattle.prefix_lines.proofs.Laws.Variables.{places-full}
 use Rattle.prefix_lines.proofs.Laws.Models.{model-kinds, model-sets, model-clauses, model-used, model-universals}
 
@@ -51,63 +54,76 @@ model-state φ =
     let e : steps (model_of φ) ≡ 0 = unfold steps model_by in refl in
     rw (model-kinds φ, model-used φ, model-clauses φ, d, e)
 
--- ---- the phase, by its number
+-- ---- the phase
 
-module _ (r : Reader) {n : ℕ} (e : n ≡ phase_number r.phase) where
-  pub phase-opening : n ≡ 0 → r.phase ≡ opening
-  unfolding phase_number
+module _ (r : Reader) {n : Code.Phase} (e : n ≡ phase_told r.phase) where
+  pub phase-opening : n ≡ Opening → r.phase ≡ opening
+  unfolding phase_told
   phase-opening z = go r.phase (sym e ∙ z)
     where
-      go : (p : Phase) → phase_number p ≡ 0 → p ≡ opening
+      go : (p : Phase) → phase_told p ≡ Opening → p ≡ opening
       go opening h = refl
-      go prefix_lines h = absurd (omega arith)
-      go clause_lines h = absurd (omega arith)
+      go prefix_lines h = cc
+      go clause_lines h = cc
 
-  pub phase-late : (n ≡ 0 → ⊥) → (is_opening r.phase ≡ false) × (takes_clauses r.phase ≡ true)
-  unfolding phase_number is_opening takes_clauses
+  pub phase-late : (n ≡ Opening → ⊥) → (is_opening r.phase ≡ false) × (takes_clauses r.phase ≡ true)
+  unfolding phase_told is_opening takes_clauses
   phase-late z = go r.phase (λ h. z (e ∙ h))
     where
-      go : (p : Phase) → (phase_number p ≡ 0 → ⊥) → (is_opening p ≡ false) × (takes_clauses p ≡ true)
+      go : (p : Phase) → (phase_told p ≡ Opening → ⊥) → (is_opening p ≡ false) × (takes_clauses p ≡ true)
       go opening h = absurd (h refl)
       go prefix_lines h = (refl, refl)
       go clause_lines h = (refl, refl)
 
-  pub phase-prefix : n ≡ 1 → r.phase ≡ prefix_lines
-  unfolding phase_number
+  pub phase-prefix : n ≡ PrefixLines → r.phase ≡ prefix_lines
+  unfolding phase_told
   phase-prefix z = go r.phase (sym e ∙ z)
     where
-      go : (p : Phase) → phase_number p ≡ 1 → p ≡ prefix_lines
-      go opening h = absurd (omega arith)
+      go : (p : Phase) → phase_told p ≡ PrefixLines → p ≡ prefix_lines
+      go opening h = cc
       go prefix_lines h = refl
-      go clause_lines h = absurd (omega arith)
+      go clause_lines h = cc
 
-  pub phase-other : (n ≡ 1 → ⊥) → takes_prefix r.phase ≡ false
-  unfolding phase_number takes_prefix
+  pub phase-other : (n ≡ PrefixLines → ⊥) → takes_prefix r.phase ≡ false
+  unfolding phase_told takes_prefix
   phase-other z = go r.phase (λ h. z (e ∙ h))
     where
-      go : (p : Phase) → (phase_number p ≡ 1 → ⊥) → takes_prefix p ≡ false
+      go : (p : Phase) → (phase_told p ≡ PrefixLines → ⊥) → takes_prefix p ≡ false
       go opening h = refl
       go prefix_lines h = absurd (h refl)
       go clause_lines h = refl
 
+-- ---- the lengths
+
+pub same-room : (t : Tables) → SameRoom t t
+same-room t = record { literals = refl; ends = refl; sets = refl; kinds = refl }
+
+pub room-then : {a b c : Tables} → SameRoom a b → SameRoom b c → SameRoom a c
+room-then p q = record { literals = q.literals ∙ p.literals; ends = q.ends ∙ p.ends; sets = q.sets ∙ p.sets; kinds = q.kinds ∙ p.kinds }
+
+pub long-kept : (t : Tables) {t' : Tables} → SameRoom t t' → long t ≡ true → long t' ≡ true
+long-kept t {t'} p e =
+    let l = long-is t e in
+    long-to t' (record { literals = omega (arith, p.literals, l.literals); ends = omega (arith, p.ends, l.ends); sets = omega (arith, p.sets, l.sets); kinds = omega (arith, p.kinds, l.kinds) })
+
 -- ---- counts and entries
 
-module _ {t : Tables} {r : Reader} {p : Progress} {now : Tables} (h : ReadSoFar t r p now) where
+module _ {t : Tables} {r : Reader} {p : Carried} {now : Tables} (h : ReadSoFar t r p now) where
   abbrev φ : Formula
   φ = r.formula
 
-  pub phase-is : p.phase ≡ phase_number r.phase
-  unfolding progress_of
-  phase-is = ap (λ (q : Progress). q.phase) h.progress
+  pub phase-is : p.phase ≡ phase_told r.phase
+  unfolding carried_of
+  phase-is = ap (λ (q : Carried). q.phase) h.progress
 
   pub count-is : p.count ≡ r.count
-  unfolding progress_of
-  count-is = ap (λ (q : Progress). q.count) h.progress
+  unfolding carried_of
+  count-is = ap (λ (q : Carried). q.count) h.progress
 
   pub state-is : p.state ≡ counts_of φ.bound (length (universals φ)) (map sorted φ.clauses)
-  unfolding progress_of
+  unfolding carried_of
   state-is =
-      ap (λ (q : Progress). q.state) h.progress ∙ model-state φ
+      ap (λ (q : Carried). q.state) h.progress ∙ model-state φ
       ∙ ap (λ n. counts_of φ.bound n (map sorted φ.clauses)) (model-universals r h.sane)
 
   pub bound-is : p.state.bound.0 ≡ φ.bound

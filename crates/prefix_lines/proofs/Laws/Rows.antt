@@ -2,23 +2,28 @@
 --     row-length, row-entry, row-past      its length; the value of a variable by its entry
 --     row-set                              two functions that agree but for one variable
 --     declared-above, declared-twice, declared-new      the returns of `declare`
---     universal-end, universal-more, union-end, union_more     the loop of `members_of`
+--     union_assoc                          unions of unions
+--     Members, members-start, members-next, members-stop, members-all     the loop of `members_of`
 -- Assumes nothing.
 use mathlib.Core.Path.{◌≡◌, refl, ap, sym, ◌∙◌}
 use mathlib.Core.Logic.{◌⊎◌, inl, inr}
-use mathlib.Core.Bool.{Bool, true, false, ◌&&◌, and-false}
-use mathlib.Core.List.{List, ◌∷◌, map}
+use mathlib.Core.Bool.{true, false, or_assoc, and-false}
+use mathlib.Core.Option.{none, some}
+use mathlib.Core.List.{List, [], ◌∷◌, map}
 use Prim.Native.Nat.{ℕ, zero, suc, ◌+◌, ◌-◌, ◌≤◌, ◌<◌}
 use native.Mathlib.Nat.{add-zero, zero-add, not-suc-le-zero, le_of_suc-le-suc}
-use native.Mathlib.Numerals.{sub-one}
+use native.Mathlib.Numerals.{add-one, sub-one}
 use native.Mathlib.Omega.{arith}
 use borrow.Author.Tests.{le-leb, lt-leb, ne_eqb}
-use lib.Dec.{leb, ltb, eqb}
-use lib.ListN.{length, get_or, drop, set, length-map, get_or-eq_default}
-use lib.Seq.{drop-cons, drop-length}
-use Rattle.dqbf.specs.Set.{union}
+use lib.Dec.{leb, ltb}
+use lib.Bits.{bit_or, or_zero_l, or_zero_r}
+use lib.ListN.{length, get_or, drop, set, length-map, get_or-eq_default, drop_of_length-le}
+use lib.Seq.{drop-cons}
+use Rattle.dqbf.specs.Refusal.{refusal}
+use Rattle.dqbf.specs.Set.{Set, union, bit}
 use Rattle.dqbf.specs.Model.{numbers}
 use Rattle.dqbf.proofs.Laws.Tests.{either, ltb_yes, ltb_no}
+use Rattle.dqbf.proofs.Laws.Words.{bit-ext, bit-or}
 use Rattle.dqbf.proofs.Soundness.Link.{numbers-length}
 use Rattle.tables.specs.Tables.{entry}
 use Rattle.tables.specs.WellFormed.{all_of}
@@ -79,40 +84,54 @@ module _ (f : ℕ → ℕ) where
 -- ---- one variable declared
 
 module _ (bound x kind s : ℕ) (sets kinds : List ℕ) where
-  refused-row : declarable bound kinds x ≡ false → Declared bound x kind s sets kinds false sets kinds
-  refused-row e = record { told = sym e; sets-are = refl; kinds-are = refl }
+  refused-row : declarable bound kinds x ≡ false → Declared bound x kind s sets kinds (some (refusal 12)) sets kinds
+  refused-row e = record { told = rw e; sets-are = rw e; kinds-are = rw e }
 
-  pub declared-above : bound < x → Declared bound x kind s sets kinds false sets kinds
+  pub declared-above : bound < x → Declared bound x kind s sets kinds (some (refusal 12)) sets kinds
   unfolding declarable
   declared-above h = refused-row (rw (lt-leb x bound h))
 
-  pub declared-twice : (get_or kinds (x - 1) 0 ≡ 0 → ⊥) → Declared bound x kind s sets kinds false sets kinds
+  pub declared-twice : (get_or kinds (x - 1) 0 ≡ 0 → ⊥) → Declared bound x kind s sets kinds (some (refusal 12)) sets kinds
   unfolding declarable
   declared-twice n = refused-row (rw (ne_eqb (get_or kinds (x - 1) 0) 0 n) (and-false (leb x bound)))
 
-  pub declared-new : x ≤ bound → get_or kinds (x - 1) 0 ≡ 0 → {sets' : List ℕ} → sets' ≡ set sets (x - 1) s → Declared bound x kind s sets kinds true sets' (set kinds (x - 1) kind)
+  pub declared-new : x ≤ bound → get_or kinds (x - 1) 0 ≡ 0 → {sets' : List ℕ} → sets' ≡ set sets (x - 1) s → Declared bound x kind s sets kinds none sets' (set kinds (x - 1) kind)
   unfolding declarable
-  declared-new h e w = record { told = rw (le-leb x bound h, e); sets-are = w; kinds-are = refl }
+  declared-new h e w = record { told = rw (le-leb x bound h, e); sets-are = rw (le-leb x bound h, e) w; kinds-are = rw (le-leb x bound h, e) }
 
--- ---- kinds and sets of several variables
+-- ---- unions
 
-pub universal-end : (kinds xs : List ℕ) → true ≡ all_of (is_universal kinds) (drop (length xs) xs)
-unfolding all_of
-universal-end kinds xs = rw (drop-length xs)
+pub union_assoc : (a b c : Set) → union (union a b) c ≡ union a (union b c)
+union_assoc a b c =
+    bit-ext _ _ (λ i. rw (bit-or (bit_or a b) c i, bit-or a b i, bit-or a (bit_or b c) i, bit-or b c i) (or_assoc (bit a i) (bit b i) (bit c i)))
 
-pub universal-more : (kinds xs : List ℕ) (i : ℕ) {k : ℕ} {t : Bool} → 0 < i → i ≤ length xs → t ≡ all_of (is_universal kinds) (drop i xs) → k ≡ entry kinds (get_or xs (i - 1) 0)
-    → (eqb k 1 && t) ≡ all_of (is_universal kinds) (drop (i - 1) xs)
-unfolding all_of is_universal
-universal-more kinds xs i {k} {t} some low e f =
-    let q : suc (i - 1) ≡ i = omega arith in
-    rw (f, e) (ap (λ n. eqb (entry kinds (get_or xs (i - 1) 0)) 1 && all_of (is_universal kinds) (drop n xs)) (sym q) ∙ sym (ap (all_of (is_universal kinds)) (drop-cons xs (i - 1) 0 (omega arith))))
+-- ---- the members of a set: the first i are universals, with the union u of their sets
 
-pub union-end : (sets xs : List ℕ) → 0 ≡ union_of sets (drop (length xs) xs)
-unfolding union_of
-union-end sets xs = rw (drop-length xs)
+pub record Members (sets kinds xs : List ℕ) (i u : ℕ) : Type 0 where
+  pub all : all_of (is_universal kinds) (drop i xs) ≡ all_of (is_universal kinds) xs
+  pub union-is : union u (union_of sets (drop i xs)) ≡ union_of sets xs
 
-pub union_more : (sets xs : List ℕ) (i : ℕ) {s u w : ℕ} → 0 < i → i ≤ length xs → u ≡ union_of sets (drop i xs) → s ≡ entry sets (get_or xs (i - 1) 0) → w ≡ union s u → w ≡ union_of sets (drop (i - 1) xs)
-unfolding union_of
-union_more sets xs i {s} {u} {w} some low e f g =
-    let q : suc (i - 1) ≡ i = omega arith in
-    g ∙ rw (f, e) (ap (λ n. union (entry sets (get_or xs (i - 1) 0)) (union_of sets (drop n xs))) (sym q) ∙ sym (ap (union_of sets) (drop-cons xs (i - 1) 0 (omega arith))))
+module _ (sets kinds xs : List ℕ) where
+  pub members-start : Members sets kinds xs 0 0
+  members-start = record { all = refl; union-is = or_zero_l (union_of sets xs) }
+
+  module _ (i : ℕ) {u k : ℕ} (inside : i < length xs) (h : Members sets kinds xs i u) (kind : k ≡ entry kinds (get_or xs i 0)) where
+    tail : drop i xs ≡ get_or xs i 0 ∷ drop (suc i) xs
+    tail = drop-cons xs i 0 inside
+
+    pub members-stop : (k ≡ 1 → ⊥) → all_of (is_universal kinds) xs ≡ false
+    unfolding all_of is_universal
+    members-stop n = sym h.all ∙ ap (all_of (is_universal kinds)) tail ∙ rw (← kind, ne_eqb k 1 n)
+
+    pub members-next : {s w : ℕ} → k ≡ 1 → s ≡ entry sets (get_or xs i 0) → w ≡ union u s → Members sets kinds xs (i + 1) w
+    unfolding all_of is_universal union_of
+    members-next {s} {w} e f g = rw add-one (record {
+      all = sym (ap (all_of (is_universal kinds)) tail ∙ rw (← kind, e)) ∙ h.all;
+      union-is = rw (g, f) (union_assoc u (entry sets (get_or xs i 0)) (union_of sets (drop (suc i) xs)) ∙ sym (ap (λ l. union u (union_of sets l)) tail)) ∙ h.union-is;
+    })
+
+  pub members-all : (i : ℕ) {u : ℕ} → length xs ≤ i → Members sets kinds xs i u → (all_of (is_universal kinds) xs ≡ true) × (u ≡ union_of sets xs)
+  unfolding all_of union_of
+  members-all i {u} e h =
+      let none : drop i xs ≡ [] = drop_of_length-le xs {i = i} e in
+      (sym (ap (all_of (is_universal kinds)) (sym none) ∙ h.all), sym (or_zero_r u) ∙ ap (λ l. union u (union_of sets l)) (sym none) ∙ h.union-is)

@@ -12,22 +12,22 @@ use mathlib.Core.List.{List, [], ◌∷◌, ◌++◌, append-nil, append_assoc}
 use Prim.Native.Nat.{ℕ, zero, suc, ◌-◌, ◌^◌, ◌≤◌}
 use native.Mathlib.Nat.{one-mul, pow-suc}
 use native.Mathlib.Omega.{arith}
-use lib.Bits.{bit_or, or_zero_r, or_shifted_r}
+use lib.Bits.{or_zero_r, or_shifted_r}
 use lib.Dec.{eqb}
 use lib.ListN.{length, get_or, take}
 use lib.Pow.{pow_pos, ones_lt}
 use lib.Seq.{take-length, take-suc}
 use Rattle.dqbf.specs.Literal.{◌∈◌}
-use Rattle.dqbf.specs.Set.{Set, single, union, bit}
+use Rattle.dqbf.specs.Set.{single, union}
 use Rattle.dqbf.specs.Formula.{Declaration, on_a, on_e, on_d, Formula, declared, universals_of, universals, e_set, Var, undeclared, universal, existential, declared_as, var_by, var}
 use Rattle.dqbf.specs.Model.{place, word_of, kind_for, set_for}
 use Rattle.dqbf.specs.Reading.{elem}
 use Rattle.dqbf.proofs.Laws.Tests.{eqb_is, eqb-not, eqb_same, never, or_no}
-use Rattle.dqbf.proofs.Laws.Words.{bit-ext, bit-or}
 use Rattle.dqbf.proofs.Laws.Counting.{Once, elem_in, place_at}
 use Rattle.dqbf.proofs.Reading.Lines.{universals-declared, universals-append}
 use Rattle.dqbf.proofs.LoadValid.{e_set-names, set-in}
 use Rattle.dqbf.proofs.Soundness.Link.{universal-in}
+use Rattle.prefix_lines.proofs.Laws.Rows.{union_assoc}
 
 -- ---- one declaration: its variable, and what that is, with the universals `earlier` before it
 
@@ -178,14 +178,6 @@ pub word-grown : (us vs S : List ℕ) → ((u : ℕ) → u ∈ S → u ∈ us) �
 unfolding word_of
 word-grown us vs [] h = refl
 word-grown us vs (y ∷ S) h = rw (place-grown us vs y (h y (Memᴰ.head refl)), word-grown us vs S (λ u q. h u (Memᴰ.tail q)))
-
-or_assoc : (a b c : Bool) → ((a || b) || c) ≡ (a || (b || c))
-or_assoc true b c = refl
-or_assoc false b c = refl
-
-union_assoc : (a b c : Set) → union (union a b) c ≡ union a (union b c)
-union_assoc a b c =
-    bit-ext _ _ (λ i. rw (bit-or (bit_or a b) c i, bit-or a b i, bit-or a (bit_or b c) i, bit-or b c i) (or_assoc (bit a i) (bit b i) (bit c i)))
 
 pub word_more : (us S T : List ℕ) → word_of us (S ++ T) ≡ union (word_of us S) (word_of us T)
 unfolding word_of

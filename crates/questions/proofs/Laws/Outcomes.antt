@@ -27,9 +27,9 @@ use Rattle.dqbf.proofs.SetSize.{set-size}
 use Rattle.tables.specs.declared.State.{State}
 use Rattle.tables.specs.Tables.{Tables, stretch, entry, model_in}
 use Rattle.tables.specs.WellFormed.{long, well_formed}
-use Rattle.tables.specs.Unusable.{unusable, unless_refused, unusable_number}
+use Rattle.tables.specs.Unusable.{unusable, unless_refused}
 use Rattle.tables.proofs.Laws.Formed.{long-is, formed-is}
-use Rattle.tables.proofs.Laws.Unusable.{usable, first-is, none_lent, none-formed}
+use Rattle.tables.proofs.Laws.Unusable.{usable, none_lent, none-formed}
 use Rattle.tables.proofs.Laws.Spread.{valid-held}
 use Rattle.tables.proofs.Laws.Adding.{variable-count}
 use Rattle.tables.proofs.Laws.Entries.{unknown-told, clause-at, range-rises, range-ends, range_length, range-narrow, kind-told, set_told}
@@ -51,35 +51,35 @@ nothing t s c l r p q e f = record {
   place = q ∙ ap (λ n. (l.ref_ptr.0, n)) (sym (rw (← f) (zero-add l.ref_ptr.1)));
 }
 
-module _ (t : Tables) (s : State) (c : ℕ) {n : ℕ} (told : n ≡ unusable_number t s) where
+module _ (t : Tables) (s : State) (c : ℕ) where
   -- ---- numbers 1 and 2
 
-  module _ (h : n ≡ 0 → ⊥) where
-    pub length-refused : no_clause (refusal n) ≡ length_answer t s c
+  module _ {r : Refusal} (e : some r ≡ unusable t s) where
+    pub length-refused : no_clause r ≡ length_answer t s c
     unfolding length_answer
-    length-refused = unless-refused t s no_clause (ask_clause (model_in t s) c) (first-is t s told h)
+    length-refused = unless-refused t s no_clause (ask_clause (model_in t s) c) (sym e)
 
-    pub variable-refused : no_variable (refusal n) ≡ variable_answer t s c
+    pub variable-refused : no_variable r ≡ variable_answer t s c
     unfolding variable_answer
-    variable-refused = unless-refused t s no_variable (ask_variable (model_in t s) c) (first-is t s told h)
+    variable-refused = unless-refused t s no_variable (ask_variable (model_in t s) c) (sym e)
 
     pub shown-refused : (l r : Bor (List ℤ)) → r.now ≡ [] → r.ref_ptr ≡ l.ref_ptr → Shown t s c l r
     unfolding shown_clause shown_start
     shown-refused l r p q =
-        nothing t s c l r p q (unless-refused t s (λ x. []) (show (model_in t s) c) (first-is t s told h))
-        (unless-refused t s (λ x. 0) (cond (unknown (model_in t s) c) 0 (entry t.ends (c - 1))) (first-is t s told h))
+        nothing t s c l r p q (unless-refused t s (λ x. []) (show (model_in t s) c) (sym e))
+        (unless-refused t s (λ x. 0) (cond (unknown (model_in t s) c) 0 (entry t.ends (c - 1))) (sym e))
 
   -- ---- of well-formed tables
 
-  module _ (z : n ≡ 0) where
+  module _ (z : none ≡ unusable t s) where
     abbrev m : Model
     m = model_in t s
 
     lent : long t ≡ true
-    lent = none_lent t s told z
+    lent = none_lent t s (sym z)
 
     formed : well_formed t s ≡ true
-    formed = none-formed t s told z
+    formed = none-formed t s (sym z)
 
     asked-length : ask_clause m c ≡ length_answer t s c
     unfolding length_answer

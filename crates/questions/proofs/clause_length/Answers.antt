@@ -1,47 +1,28 @@
 -- `questions::clause_length` meets its contract.
 use native.Mathlib.Omega.{arith}
-use Rattle.tables.specs.Tables.{Tables, tables_of}
-use Rattle.questions.specs.Answers.{length_told}
+use Rattle.std.proofs.lemmas.Result.{err_from_is_err_and}
 use Rattle.questions.proofs.Laws.Outcomes.{length-refused, clause-zero, clause-past, length-unknown, range-asks, range-ordered, range-short, length-told}
 use Rattle.questions.proofs.clause_length.Goals as goal
 
-pub returns-then-refused-ne0 : goal.returns-then-refused-ne0
-unfolding length_told
-returns-then-refused-ne0 c =
-    let lent : Tables = (let a = c.args in tables_of a.literals.now a.ends.now a.sets.now a.kinds.now) in
-    length-refused (lent) _ _ c.first_refusal-refused.ensures c.if-refused-ne0.true
+pub returns-in_err-usable : goal.returns-in_err-usable
+returns-in_err-usable c =
+    let p = err_from_is_err_and c.from_residual.result c.from_residual.ensures.1 in
+    rw (p.1, p.2) (length-refused _ _ _ c.in_err-usable.ensures)
 
 pub returns-then-clause-eq0 : goal.returns-then-clause-eq0
-unfolding length_told
-returns-then-clause-eq0 c =
-    let lent : Tables = (let a = c.args in tables_of a.literals.now a.ends.now a.sets.now a.kinds.now) in
-    let told = c.first_refusal-refused.ensures in
-    length-unknown (lent) _ _ told c.if-refused-ne0.false (clause-zero (lent) _ _ told c.if-refused-ne0.false c.if-clause-eq0.true)
+returns-then-clause-eq0 c = length-unknown _ _ _ c.in_ok-usable.ensures (clause-zero _ _ _ c.in_ok-usable.ensures c.if-clause-eq0.true)
 
-pub returns-then-clause-count : goal.returns-then-clause-count
-unfolding length_told
-returns-then-clause-count c =
-    let lent : Tables = (let a = c.args in tables_of a.literals.now a.ends.now a.sets.now a.kinds.now) in
-    let told = c.first_refusal-refused.ensures in
-    length-unknown (lent) _ _ told c.if-refused-ne0.false (clause-past (lent) _ _ told c.if-refused-ne0.false c.if-clause-count.true)
+pub returns-then-clause-tables : goal.returns-then-clause-tables
+returns-then-clause-tables c = length-unknown _ _ _ c.in_ok-usable.ensures (clause-past _ _ _ c.in_ok-usable.ensures c.if-clause-tables.true)
 
 pub clause_range-range-requires : goal.clause_range-range-requires
-clause_range-range-requires c =
-    let lent : Tables = (let a = c.args in tables_of a.literals.now a.ends.now a.sets.now a.kinds.now) in
-    range-asks (lent) _ _ c.first_refusal-refused.ensures c.if-refused-ne0.false c.if-clause-eq0.false c.if-clause-count.false
+clause_range-range-requires c = range-asks _ _ _ c.in_ok-usable.ensures c.if-clause-eq0.false c.if-clause-tables.false
 
 pub overflow_sub-result : goal.overflow_sub-result
-overflow_sub-result c =
-    let lent : Tables = (let a = c.args in tables_of a.literals.now a.ends.now a.sets.now a.kinds.now) in
-    range-ordered (lent) _ _ c.first_refusal-refused.ensures c.if-refused-ne0.false c.if-clause-eq0.false c.if-clause-count.false _ _ c.clause_range-range.ensures.0 c.clause_range-range.ensures.1
+overflow_sub-result c = range-ordered _ _ _ c.in_ok-usable.ensures c.if-clause-eq0.false c.if-clause-tables.false _ _ c.clause_range-range.ensures.0 c.clause_range-range.ensures.1
 
 pub overflow_cast-result : goal.overflow_cast-result
-overflow_cast-result c =
-    let lent : Tables = (let a = c.args in tables_of a.literals.now a.ends.now a.sets.now a.kinds.now) in
-    omega (arith, range-short (lent) _ _ c.first_refusal-refused.ensures c.if-refused-ne0.false c.if-clause-eq0.false c.if-clause-count.false _ _ c.clause_range-range.ensures.0 c.clause_range-range.ensures.1)
+overflow_cast-result c = omega (arith, range-short _ _ _ c.in_ok-usable.ensures c.if-clause-eq0.false c.if-clause-tables.false _ _ c.clause_range-range.ensures.0 c.clause_range-range.ensures.1)
 
 pub returns : goal.returns
-unfolding length_told
-returns c =
-    let lent : Tables = (let a = c.args in tables_of a.literals.now a.ends.now a.sets.now a.kinds.now) in
-    length-told (lent) _ _ c.first_refusal-refused.ensures c.if-refused-ne0.false c.if-clause-eq0.false c.if-clause-count.false _ _ c.clause_range-range.ensures.0 c.clause_range-range.ensures.1
+returns c = length-told _ _ _ c.in_ok-usable.ensures c.if-clause-eq0.false c.if-clause-tables.false _ _ c.clause_range-range.ensures.0 c.clause_range-range.ensures.1

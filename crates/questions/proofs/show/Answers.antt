@@ -1,54 +1,34 @@
+-- `questions::show` meets its contract.
 use mathlib.Core.Path.{refl}
 use native.Mathlib.Omega.{arith}
-use Rattle.tables.specs.Tables.{Tables, tables_of}
 use Rattle.questions.proofs.Laws.Outcomes.{shown-refused, clause-zero, clause-past, shown-unknown, range-asks, range-ordered, range_inside, shown-told}
 use Rattle.questions.proofs.show.Goals as goal
 
-pub returns-then-first_refusal-ne0 : goal.returns-then-first_refusal-ne0
-returns-then-first_refusal-ne0 c =
-    let lent : Tables = (let a = c.args in tables_of a.literals.now a.ends.now a.sets.now a.kinds.now) in
-    shown-refused (lent) _ _ c.first_refusal.ensures c.if-first_refusal-ne0.true _ _ refl refl
+pub returns-in_default : goal.returns-in_default
+returns-in_default c = shown-refused _ _ _ c.in_default.ensures _ _ refl refl
 
 pub returns-then-clause-eq0 : goal.returns-then-clause-eq0
-returns-then-clause-eq0 c =
-    let lent : Tables = (let a = c.args in tables_of a.literals.now a.ends.now a.sets.now a.kinds.now) in
-    let told = c.first_refusal.ensures in
-    shown-unknown (lent) _ _ told c.if-first_refusal-ne0.false (clause-zero (lent) _ _ told c.if-first_refusal-ne0.false c.if-clause-eq0.true) _ _ refl refl
+returns-then-clause-eq0 c = shown-unknown _ _ _ c.in-Ok.ensures (clause-zero _ _ _ c.in-Ok.ensures c.if-clause-eq0.true) _ _ refl refl
 
-pub returns-then-clause-last : goal.returns-then-clause-last
-returns-then-clause-last c =
-    let lent : Tables = (let a = c.args in tables_of a.literals.now a.ends.now a.sets.now a.kinds.now) in
-    let told = c.first_refusal.ensures in
-    shown-unknown (lent) _ _ told c.if-first_refusal-ne0.false (clause-past (lent) _ _ told c.if-first_refusal-ne0.false c.if-clause-last.true) _ _ refl refl
+pub returns-then-tables-clause : goal.returns-then-tables-clause
+returns-then-tables-clause c = shown-unknown _ _ _ c.in-Ok.ensures (clause-past _ _ _ c.in-Ok.ensures c.if-tables-clause.true) _ _ refl refl
 
 pub clause_range-range-requires : goal.clause_range-range-requires
-clause_range-range-requires c =
-    let lent : Tables = (let a = c.args in tables_of a.literals.now a.ends.now a.sets.now a.kinds.now) in
-    range-asks (lent) _ _ c.first_refusal.ensures c.if-first_refusal-ne0.false c.if-clause-eq0.false c.if-clause-last.false
+clause_range-range-requires c = range-asks _ _ _ c.in-Ok.ensures c.if-clause-eq0.false c.if-tables-clause.false
 
-pub offset_bounds-literals-start : goal.offset_bounds-literals-start
-offset_bounds-literals-start c =
-    let lent : Tables = (let a = c.args in tables_of a.literals.now a.ends.now a.sets.now a.kinds.now) in
-    let told = c.first_refusal.ensures in
-    let ordered = range-ordered (lent) _ _ told c.if-first_refusal-ne0.false c.if-clause-eq0.false c.if-clause-last.false _ _ c.clause_range-range.ensures.0 c.clause_range-range.ensures.1 in
-    omega (arith, ordered, range_inside (lent) _ _ told c.if-first_refusal-ne0.false c.if-clause-eq0.false c.if-clause-last.false _ _ c.clause_range-range.ensures.0 c.clause_range-range.ensures.1, c.well_formed.0.1)
+pub offset_bounds-tables-range : goal.offset_bounds-tables-range
+offset_bounds-tables-range c =
+    let ordered = range-ordered _ _ _ c.in-Ok.ensures c.if-clause-eq0.false c.if-tables-clause.false _ _ c.clause_range-range.ensures.0 c.clause_range-range.ensures.1 in
+    omega (arith, ordered, range_inside _ _ _ c.in-Ok.ensures c.if-clause-eq0.false c.if-tables-clause.false _ _ c.clause_range-range.ensures.0 c.clause_range-range.ensures.1, c.well_formed.0)
 
 pub slice_bounds-result-count : goal.slice_bounds-result-count
-slice_bounds-result-count c =
-    let lent : Tables = (let a = c.args in tables_of a.literals.now a.ends.now a.sets.now a.kinds.now) in
-    range-ordered (lent) _ _ c.first_refusal.ensures c.if-first_refusal-ne0.false c.if-clause-eq0.false c.if-clause-last.false _ _ c.clause_range-range.ensures.0 c.clause_range-range.ensures.1
+slice_bounds-result-count c = range-ordered _ _ _ c.in-Ok.ensures c.if-clause-eq0.false c.if-tables-clause.false _ _ c.clause_range-range.ensures.0 c.clause_range-range.ensures.1
 
 pub slice_bounds-result-start : goal.slice_bounds-result-start
-slice_bounds-result-start c =
-    let lent : Tables = (let a = c.args in tables_of a.literals.now a.ends.now a.sets.now a.kinds.now) in
-    range-ordered (lent) _ _ c.first_refusal.ensures c.if-first_refusal-ne0.false c.if-clause-eq0.false c.if-clause-last.false _ _ c.clause_range-range.ensures.0 c.clause_range-range.ensures.1
+slice_bounds-result-start c = range-ordered _ _ _ c.in-Ok.ensures c.if-clause-eq0.false c.if-tables-clause.false _ _ c.clause_range-range.ensures.0 c.clause_range-range.ensures.1
 
 pub slice_bounds-result-end : goal.slice_bounds-result-end
-slice_bounds-result-end c =
-    let lent : Tables = (let a = c.args in tables_of a.literals.now a.ends.now a.sets.now a.kinds.now) in
-    range_inside (lent) _ _ c.first_refusal.ensures c.if-first_refusal-ne0.false c.if-clause-eq0.false c.if-clause-last.false _ _ c.clause_range-range.ensures.0 c.clause_range-range.ensures.1
+slice_bounds-result-end c = range_inside _ _ _ c.in-Ok.ensures c.if-clause-eq0.false c.if-tables-clause.false _ _ c.clause_range-range.ensures.0 c.clause_range-range.ensures.1
 
 pub returns : goal.returns
-returns c =
-    let lent : Tables = (let a = c.args in tables_of a.literals.now a.ends.now a.sets.now a.kinds.now) in
-    shown-told (lent) _ _ c.first_refusal.ensures c.if-first_refusal-ne0.false c.if-clause-eq0.false c.if-clause-last.false _ _ c.clause_range-range.ensures.0 c.clause_range-range.ensures.1 _ _ refl refl
+returns c = shown-told _ _ _ c.in-Ok.ensures c.if-clause-eq0.false c.if-tables-clause.false _ _ c.clause_range-range.ensures.0 c.clause_range-range.ensures.1 _ _ refl refl

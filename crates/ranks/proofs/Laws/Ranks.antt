@@ -3,14 +3,14 @@
 use mathlib.Core.Path.{◌≡◌, refl, sym, ap, ap₂, ◌∙◌}
 use mathlib.Core.Bool.{Bool, true, false, ◌||◌}
 use mathlib.Core.List.{List, [], ◌∷◌, ◌++◌, map}
-use Prim.Native.Nat.{ℕ, zero, suc, ◌+◌, ◌*◌, ◌/◌, ◌%◌, ◌^◌, ◌≤◌, ◌<◌}
+use Prim.Native.Nat.{ℕ, zero, suc, ◌+◌, ◌-◌, ◌*◌, ◌/◌, ◌%◌, ◌^◌, ◌≤◌, ◌<◌}
 use native.Mathlib.Nat.{not-suc-le-zero, le_of_suc-le-suc, suc-add}
 use native.Mathlib.Numerals.{add-one}
 use native.Mathlib.Omega.{arith}
 use lib.IntN.{ℤ, pos, negsuc, neg_ℤ, nat_abs, ◌-ℤ◌, +ℤ_idl}
 use lib.Signed.{mag}
 use lib.ListN.{length, take, drop, get_or, set, length-map, length-append, length-drop}
-use lib.Seq.{drop-cons, length-take-le, set_at, append_snoc, slice-cons}
+use lib.Seq.{drop-cons, length-take-le, set_at, append_snoc, take-length}
 use mir.Syntax.{w16}
 use mir.Val.{SFits, to_z, of_z}
 use mir.Facts.{to_z_pos, to_z-of_z}
@@ -78,7 +78,7 @@ map_next f [] i h = absurd (not-suc-le-zero h)
 map_next f (x ∷ xs) zero h = refl
 map_next f (x ∷ xs) (suc i) h = rw (suc-add i 1) (ap (λ l. f x ∷ l) (map_next f xs i (le_of_suc-le-suc h)))
 
-module _ (ranks : List ℕ) (tail tail₀ : List ℤ) (count i : ℕ) (in-ranks : count ≤ length ranks) (in_Tail : count ≤ length tail₀) (inside : i ≤ count)
+module _ (ranks : List ℕ) (tail tail₀ : List ℤ) (i : ℕ) (in_Tail : length ranks ≤ length tail₀) (inside : i ≤ length ranks)
     (so_far : tail ≡ map literal_of_rank (take i ranks) ++ drop i tail₀) where
   front : length (map literal_of_rank (take i ranks)) ≡ i
   front = length-map (take i ranks) literal_of_rank ∙ length-take-le i ranks (omega arith)
@@ -86,24 +86,26 @@ module _ (ranks : List ℕ) (tail tail₀ : List ℤ) (count i : ℕ) (in-ranks 
   pub written-length : length tail ≡ length tail₀
   written-length = let e = front in rw (so_far, length-append (map literal_of_rank (take i ranks)) (drop i tail₀), length-drop i tail₀) (omega arith)
 
-  pub written-more : i < count → (z : ℤ) → mag z < 2 ^ 15 → z ≡ literal_of_rank (get_or ranks i 0)
+  pub written-more : i < length ranks → (z : ℤ) → mag z < 2 ^ 15 → z ≡ literal_of_rank (get_or ranks i 0)
       → set tail i (to_z w16 (of_z w16 z)) ≡ map literal_of_rank (take (i + 1) ranks) ++ drop (i + 1) tail₀
   written-more h z fits e =
       let k : i < length tail₀ = omega arith in
-      let m : i < length ranks = omega arith in
       rw (
         to_z-of_z {w = w16} {z = z} (record { sfits = fits }),
         e,
         so_far,
-        map_next literal_of_rank ranks i m,
+        map_next literal_of_rank ranks i h,
         drop-cons tail₀ i (pos 0) k,
         set_at (map literal_of_rank (take i ranks)) (get_or tail₀ i (pos 0)) (drop (suc i) tail₀) (literal_of_rank (get_or ranks i 0)) i front,
         append_snoc (map literal_of_rank (take i ranks)) (literal_of_rank (get_or ranks i 0)) (drop (i + 1) tail₀),
         add-one i,
       )
 
-  pub written-done : count ≤ i → tail ≡ map literal_of_rank (take count ranks) ++ drop count tail₀
-  written-done h = let e : i ≡ count = omega arith in so_far ∙ ap (λ (j : ℕ). map literal_of_rank (take j ranks) ++ drop j tail₀) e
+  pub written-done : length ranks ≤ i → tail ≡ map literal_of_rank ranks ++ drop (length ranks) tail₀
+  written-done h =
+      let e : i ≡ length ranks = omega arith in
+      so_far ∙ ap (λ (j : ℕ). map literal_of_rank (take j ranks) ++ drop j tail₀) e
+      ∙ ap (λ (rs : List ℕ). map literal_of_rank rs ++ drop (length ranks) tail₀) (take-length ranks)
 
 -- ---- `has_pair`: the pairs before i are looked at
 
@@ -111,19 +113,19 @@ or-or : (a b c : Bool) → ((a || b) || c) ≡ (a || (b || c))
 or-or true b c = refl
 or-or false b c = refl
 
-module _ (l : List ℕ) (n i : ℕ) (found : Bool) (fits : n ≤ length l) (so_far : side_by_side (take n l) ≡ (found || side_by_side (drop i (take n l)))) where
-  two : i + 1 < n → drop i (take n l) ≡ get_or l i 0 ∷ get_or l (suc i) 0 ∷ drop (suc (suc i)) (take n l)
-  two h = slice-cons i n l 0 (omega arith) (omega arith) ∙ ap (λ (r : List ℕ). get_or l i 0 ∷ r) (slice-cons (suc i) n l 0 (omega arith) (omega arith))
-
-  pub pair-more : i + 1 < n → side_by_side (take n l) ≡ ((found || eqb (get_or l i 0 / 2) (get_or l (i + 1) 0 / 2)) || side_by_side (drop (i + 1) (take n l)))
+module _ (l : List ℕ) (i : ℕ) (found : Bool) (some : 1 ≤ i) (so_far : side_by_side l ≡ (found || side_by_side (drop (i - 1) l))) where
+  pub pair-more : i < length l → side_by_side l ≡ ((found || eqb (get_or l (i - 1) 0 / 2) (get_or l i 0 / 2)) || side_by_side (drop (i + 1 - 1) l))
   unfolding side_by_side
   pair-more h =
-      so_far ∙ ap (λ (r : List ℕ). found || side_by_side r) (two h)
-      ∙ rw (add-one i, slice-cons (suc i) n l 0 (omega arith) (omega arith)) (sym (or-or found (eqb (get_or l i 0 / 2) (get_or l (suc i) 0 / 2)) (side_by_side (get_or l (suc i) 0 ∷ drop (suc (suc i)) (take n l)))))
+      let next : i ≡ suc (i - 1) = omega arith in
+      let here : i + 1 - 1 ≡ i = omega arith in
+      let two : drop i l ≡ get_or l i 0 ∷ drop (suc i) l = drop-cons l i 0 h in
+      let one : drop (i - 1) l ≡ get_or l (i - 1) 0 ∷ drop i l = drop-cons l (i - 1) 0 (omega arith) ∙ ap (λ (k : ℕ). get_or l (i - 1) 0 ∷ drop k l) (sym next) in
+      so_far ∙ rw (here, one, two) (sym (or-or found (eqb (get_or l (i - 1) 0 / 2) (get_or l i 0 / 2)) (side_by_side (get_or l i 0 ∷ drop (suc i) l))))
 
-  pub pair-done : n ≤ i + 1 → found ≡ side_by_side (take n l)
+  pub pair-done : length l ≤ i → found ≡ side_by_side l
   unfolding side_by_side
-  pair-done h = sym (so_far ∙ go found (drop i (take n l)) (omega (arith, length-drop i (take n l), length-take-le n l fits)))
+  pair-done h = sym (so_far ∙ go found (drop (i - 1) l) (omega (arith, length-drop (i - 1) l)))
     where
       go : (t : Bool) (r : List ℕ) → length r ≤ 1 → (t || side_by_side r) ≡ t
       go true r h = refl

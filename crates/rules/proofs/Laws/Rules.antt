@@ -35,9 +35,10 @@ use Rattle.tables.proofs.Laws.Formed.{long-is, formed-is}
 use Rattle.tables.proofs.Laws.Lent.{long-words, taken-sets}
 use Rattle.tables.proofs.Laws.Spread.{valid-held}
 use Rattle.tables.proofs.Laws.Entries.{unknown-told, range-rises, range-ends, range-narrow, clause-at, clause-there, kind-told, set_told, literal-in-use}
-use Rattle.additions.specs.Adding.{Holding, After, refused_by, One, Two, fitted, tested}
+use Rattle.additions.specs.Adding.{Holding, After, One, Two, fitted, tested}
 use Rattle.rules.specs.Clauses.{is_unknown, Ranged}
-use Rattle.additions.specs.declared.Stepped.{Stepped}
+use Rattle.dqbf.specs.Refusal.{refusal}
+use mathlib.Core.Option as Option
 use Rattle.additions.proofs.Laws.Adding.{after-refused}
 use Rattle.rules.proofs.Laws.Pivots.{pivot-holds, pivot-is}
 
@@ -60,12 +61,12 @@ and-false false = refl
 
 -- ---- a literal by its place
 
-module _ (l : ℤ) (C : Clause) {i : ℕ} (is_i : i ≡ place_of l C) where
-  pub place-absent : length C ≤ i → not (holds l C) ≡ true
-  place-absent h = rw (place-holds l C, ← is_i, le-ltb i (length C) h)
+module _ (l : ℤ) (C : Clause) where
+  pub place-absent : place_of l C ≡ length C → not (holds l C) ≡ true
+  place-absent e = rw (place-holds l C, le-ltb (place_of l C) (length C) (omega arith))
 
-  pub place-present : i < length C → not (holds l C) ≡ false
-  place-present h = rw (place-holds l C, ← is_i, lt-ltb i (length C) h)
+  pub place-present : {i : ℕ} → (i ≡ place_of l C) × (i < length C) → not (holds l C) ≡ false
+  place-present {i} (e, h) = rw (place-holds l C, ← e, lt-ltb i (length C) h)
 
 -- ---- clauses by number
 
@@ -179,12 +180,12 @@ module _ (t : Tables) (s : State) (h : Holding t s) (c d : ℕ) (z : ℤ) {f g :
   abbrev E : Examined
   E = examine tables (model_in t s) (resolution c d z)
 
-  pub resolve-first : {r : Stepped} → f ≡ true → r ≡ refused_by s 21 → After t s E t r
-  resolve-first b e = after-refused t s h E 21 (resolution-first tables (model_in t s) c d z (unknown-is t s h c told ∙ b)) e
+  pub resolve-first : f ≡ true → After t s E t s (Option.some (refusal 21))
+  resolve-first b = after-refused t s h E (refusal 21) (resolution-first tables (model_in t s) c d z (unknown-is t s h c told ∙ b))
 
   module _ (known : f ≡ false) where
-    pub resolve-second : {r : Stepped} → g ≡ true → r ≡ refused_by s 21 → After t s E t r
-    resolve-second b e = after-refused t s h E 21 (resolution-second tables (model_in t s) c d z (known_is t s h c told known) (unknown-is t s h d told' ∙ b)) e
+    pub resolve-second : g ≡ true → After t s E t s (Option.some (refusal 21))
+    resolve-second b = after-refused t s h E (refusal 21) (resolution-second tables (model_in t s) c d z (known_is t s h c told known) (unknown-is t s h d told' ∙ b))
 
     module _ (known' : g ≡ false) {X Y : Clause} (is_x : X ≡ stretch (entry t.ends (c - 1)) (entry t.ends c) t.literals)
         (is_y : Y ≡ stretch (entry t.ends (d - 1)) (entry t.ends d) t.literals) {P Q : ℤ} (p : P ≡ literal_in z) (q : Q ≡ neg_ℤ P) {a : Bool} (in_x : a ≡ holds P X) where
@@ -198,12 +199,12 @@ module _ (t : Tables) (s : State) (h : Holding t s) (c d : ℕ) (z : ℤ) {f g :
       first-in = in-clause t s h c told known X-is z (rw p at in_x)
 
       -- 22, if the test of the first or of the second clause fails
-      not-held : {r : Stepped} → (holds z (clause_at (model_in t s) c) && holds (neg_ℤ z) (clause_at (model_in t s) d)) ≡ false → r ≡ refused_by s 22 → After t s E t r
-      not-held b e =
-          after-refused t s h E 22 (resolution-22 tables (model_in t s) c d z (known_is t s h c told known) (known_is t s h d told' known') b) e
+      not-held : (holds z (clause_at (model_in t s) c) && holds (neg_ℤ z) (clause_at (model_in t s) d)) ≡ false → After t s E t s (Option.some (refusal 22))
+      not-held b =
+          after-refused t s h E (refusal 22) (resolution-22 tables (model_in t s) c d z (known_is t s h c told known) (known_is t s h d told' known') b)
 
-      pub resolve-pivot : {r : Stepped} → not a ≡ true → r ≡ refused_by s 22 → After t s E t r
-      resolve-pivot b e = not-held (rw (first-in, not-true a b)) e
+      pub resolve-pivot : not a ≡ true → After t s E t s (Option.some (refusal 22))
+      resolve-pivot b = not-held (rw (first-in, not-true a b))
 
       module _ (held : not a ≡ false) {b : Bool} (in_y : b ≡ holds Q Y) where
         P-is : P ≡ z
@@ -212,8 +213,8 @@ module _ (t : Tables) (s : State) (h : Holding t s) (c d : ℕ) (z : ℤ) {f g :
         second-in : holds (neg_ℤ z) (clause_at (model_in t s) d) ≡ b
         second-in = sym (in_y ∙ rw (q, P-is, Y-is))
 
-        pub resolve-complement : {r : Stepped} → not b ≡ true → r ≡ refused_by s 22 → After t s E t r
-        resolve-complement k e = not-held (rw (second-in, not-true b k) (and-false (holds z (clause_at (model_in t s) c)))) e
+        pub resolve-complement : not b ≡ true → After t s E t s (Option.some (refusal 22))
+        resolve-complement k = not-held (rw (second-in, not-true b k) (and-false (holds z (clause_at (model_in t s) c))))
 
         pub resolve-tested : not b ≡ false → {W : Clause} → W ≡ join (without P X) (without Q Y) → E ≡ tested (model_in t s) W
         resolve-tested k is_w =
@@ -232,8 +233,8 @@ module _ (t : Tables) (s : State) (h : Holding t s) (c : ℕ) (z : ℤ) {f : Boo
   abbrev U : Examined
   U = examine tables (model_in t s) (reduction c z)
 
-  pub reduce-unknown : {r : Stepped} → f ≡ true → r ≡ refused_by s 21 → After t s U t r
-  reduce-unknown b e = after-refused t s h U 21 (reduction-21 tables (model_in t s) c z (unknown-is t s h c told ∙ b)) e
+  pub reduce-unknown : f ≡ true → After t s U t s (Option.some (refusal 21))
+  reduce-unknown b = after-refused t s h U (refusal 21) (reduction-21 tables (model_in t s) c z (unknown-is t s h c told ∙ b))
 
   module _ (known : f ≡ false) {X : Clause} (is_x : X ≡ stretch (entry t.ends (c - 1)) (entry t.ends c) t.literals) {P : ℤ} (p : P ≡ literal_in z) {a : Bool}
       (in_x : a ≡ holds P X) where
@@ -243,9 +244,9 @@ module _ (t : Tables) (s : State) (h : Holding t s) (c : ℕ) (z : ℤ) {f : Boo
     literal-in-clause : holds z (clause_at (model_in t s) c) ≡ a
     literal-in-clause = in-clause t s h c told known C-is z (rw p at in_x)
 
-    pub reduce-absent : {r : Stepped} → not a ≡ true → r ≡ refused_by s 22 → After t s U t r
-    reduce-absent b e =
-        after-refused t s h U 22 (reduction-22 tables (model_in t s) c z (known_is t s h c told known) (literal-in-clause ∙ not-true a b)) e
+    pub reduce-absent : not a ≡ true → After t s U t s (Option.some (refusal 22))
+    reduce-absent b =
+        after-refused t s h U (refusal 22) (reduction-22 tables (model_in t s) c z (known_is t s h c told known) (literal-in-clause ∙ not-true a b))
 
     module _ (held : not a ≡ false) where
       L-is : P ≡ z
@@ -262,9 +263,9 @@ module _ (t : Tables) (s : State) (h : Holding t s) (c : ℕ) (z : ℤ) {f : Boo
         kind-is : kind_of (model_in t s) (nat_abs z) ≡ k
         kind-is = sym (is_k ∙ kind-told t s h.lent h.formed (nat_abs P) reduce-used ∙ ap (λ (l : ℤ). kind_of (model_in t s) (nat_abs l)) L-is)
 
-        pub reduce-other : {r : Stepped} → k ≢ 1 → r ≡ refused_by s 26 → After t s U t r
-        reduce-other b e =
-            after-refused t s h U 26 (reduction-26 tables (model_in t s) c z (known_is t s h c told known) there (rw kind-is (ne_eqb k 1 b))) e
+        pub reduce-other : k ≢ 1 → After t s U t s (Option.some (refusal 26))
+        reduce-other b =
+            after-refused t s h U (refusal 26) (reduction-26 tables (model_in t s) c z (known_is t s h c told known) there (rw kind-is (ne_eqb k 1 b)))
 
         module _ (universal : k ≡ 1) {w : Set} (is_w : w ≡ entry t.sets (nat_abs P)) {n : ℕ} (is_n : n ≡ s.variables.0) {b : Bool} {x : Set}
             (is_set : x ≡ clause_set_in (take n t.sets) (without P X)) (is_read : b ≡ inside w x) where
@@ -285,9 +286,9 @@ module _ (t : Tables) (s : State) (h : Holding t s) (c : ℕ) (z : ℤ) {f : Boo
           read_is : reads (model_in t s) (set_of (model_in t s) (nat_abs z)) (without z (clause_at (model_in t s) c)) ≡ b
           read_is = contained ∙ sym (is_read ∙ rw (w-is, x-is))
 
-          pub reduce-read : {r : Stepped} → b ≡ true → r ≡ refused_by s 27 → After t s U t r
-          reduce-read q e =
-              after-refused t s h U 27 (reduction-27 tables (model_in t s) c z (known_is t s h c told known) there (rw kind-is (eq-eqb k 1 universal)) (read_is ∙ q)) e
+          pub reduce-read : b ≡ true → After t s U t s (Option.some (refusal 27))
+          reduce-read q =
+              after-refused t s h U (refusal 27) (reduction-27 tables (model_in t s) c z (known_is t s h c told known) there (rw kind-is (eq-eqb k 1 universal)) (read_is ∙ q))
 
           pub reduce-fitted : b ≡ false → U ≡ fitted (model_in t s) (One (without P X))
           unfolding fitted reducing
@@ -307,8 +308,8 @@ module _ (t : Tables) (s : State) (h : Holding t s) (c left right : ℕ) {f : Bo
   abbrev K : Examined
   K = examine tables (model_in t s) (fork c left right)
 
-  pub fork-unknown : {r : Stepped} → f ≡ true → r ≡ refused_by s 21 → After t s K t r
-  fork-unknown b e = after-refused t s h K 21 (fork-21 tables (model_in t s) c left right (unknown-is t s h c told ∙ b)) e
+  pub fork-unknown : f ≡ true → After t s K t s (Option.some (refusal 21))
+  fork-unknown b = after-refused t s h K (refusal 21) (fork-21 tables (model_in t s) c left right (unknown-is t s h c told ∙ b))
 
   module _ (known : f ≡ false) {X : Clause} (is_x : X ≡ stretch (entry t.ends (c - 1)) (entry t.ends c) t.literals) {a : Bool} (covered : a ≡ covers left right X) where
     X-clause : X ≡ clause_at (model_in t s) c
@@ -317,8 +318,8 @@ module _ (t : Tables) (s : State) (h : Holding t s) (c left right : ℕ) {f : Bo
     covers-is : covers left right (clause_at (model_in t s) c) ≡ a
     covers-is = sym (covered ∙ rw X-clause)
 
-    pub fork-masks : {r : Stepped} → not a ≡ true → r ≡ refused_by s 28 → After t s K t r
-    fork-masks b e = after-refused t s h K 28 (fork-28 tables (model_in t s) c left right (known_is t s h c told known) (covers-is ∙ not-true a b)) e
+    pub fork-masks : not a ≡ true → After t s K t s (Option.some (refusal 28))
+    fork-masks b = after-refused t s h K (refusal 28) (fork-28 tables (model_in t s) c left right (known_is t s h c told known) (covers-is ∙ not-true a b))
 
     -- each part has at most 32 literals
     pub part-narrow : (mask : ℕ) → length (pick mask X) ≤ width_limit
@@ -343,15 +344,15 @@ module _ (t : Tables) (s : State) (h : Holding t s) (c left right : ℕ) {f : Bo
       covered_whole : covers left right (clause_at (model_in t s) c) ≡ true
       covered_whole = covers-is ∙ not-false a whole
 
-      comparable : {r : Stepped} → (p || q) ≡ true → r ≡ refused_by s 29 → After t s K t r
-      comparable b e =
-          after-refused t s h K 29 (fork-29 tables (model_in t s) c left right (known_is t s h c told known) covered_whole (compared ∙ b)) e
+      comparable : (p || q) ≡ true → After t s K t s (Option.some (refusal 29))
+      comparable b =
+          after-refused t s h K (refusal 29) (fork-29 tables (model_in t s) c left right (known_is t s h c told known) covered_whole (compared ∙ b))
 
-      pub fork-inside : {r : Stepped} → p ≡ true → r ≡ refused_by s 29 → After t s K t r
-      fork-inside b e = comparable (or_left p q b) e
+      pub fork-inside : p ≡ true → After t s K t s (Option.some (refusal 29))
+      fork-inside b = comparable (or_left p q b)
 
-      pub fork-around : {r : Stepped} → q ≡ true → r ≡ refused_by s 29 → After t s K t r
-      fork-around b e = comparable (or_right p q b) e
+      pub fork-around : q ≡ true → After t s K t s (Option.some (refusal 29))
+      fork-around b = comparable (or_right p q b)
 
       pub fork-fitted : p ≡ false → q ≡ false → {w : Set} → w ≡ common x y
           → K ≡ fitted (model_in t s) (Two (pick left X ++ (pos (suc s.variables.0) ∷ [])) (pick right X ++ (negsuc s.variables.0 ∷ [])) w)

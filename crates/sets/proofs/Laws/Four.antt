@@ -20,6 +20,7 @@ use denote.Array.{Array, each}
 use denote.Laws.{Is}
 use denote.Plain.{UInt}
 use denote.Shadow.{shadow}
+use Rattle.std.specs.Cmp.Lexicographic.{pointwise}
 use Rattle.dqbf.specs.Set.{empty_set, single, union, common, inside, size}
 use Rattle.dqbf.proofs.Laws.Tests.{either}
 use Rattle.sets.specs.Words.{Words, as_set, union_each, common_each, inside_each, size_each, none_each, same_each, as_sets, spare_in}
@@ -79,20 +80,14 @@ module _ (s t : List ℕ) (p : Words 4 s) (q : Words 4 t) where
   unfolding inside_each
   inside-four = and-four (within 0) (within 1) (within 2) (within 3) ∙ sym (ap₂ inside_each (quad_is s p) (quad_is t q)) ∙ inside-set 4 s t p q
 
-  abbrev equal : ℕ → Bool
-  equal i = eqb (get_or s i 0) (get_or t i 0)
-
-  pub same-four : (((equal 0 && equal 1) && equal 2) && equal 3) ≡ eqb (as_set s) (as_set t)
+  pub same-four : pointwise eqb s t ≡ eqb (as_set s) (as_set t)
   unfolding same_each
-  same-four = and-four (equal 0) (equal 1) (equal 2) (equal 3) ∙ sym (ap₂ same_each (quad_is s p) (quad_is t q)) ∙ same_set 4 s t p q
+  same-four = ap₂ (pointwise eqb) (quad_is s p) (quad_is t q) ∙ sym (ap₂ same_each (quad_is s p) (quad_is t q)) ∙ same_set 4 s t p q
 
 module _ (s : List ℕ) (p : Words 4 s) where
-  abbrev bare : ℕ → Bool
-  bare i = eqb (get_or s i 0) 0
-
-  pub none-four : (((bare 0 && bare 1) && bare 2) && bare 3) ≡ eqb (as_set s) empty_set
+  pub none-four : pointwise eqb s (0 ∷ 0 ∷ 0 ∷ 0 ∷ []) ≡ eqb (as_set s) empty_set
   unfolding none_each
-  none-four = and-four (bare 0) (bare 1) (bare 2) (bare 3) ∙ sym (ap none_each (quad_is s p)) ∙ none-set 4 s p
+  none-four = ap (λ (l : List ℕ). pointwise eqb l (0 ∷ 0 ∷ 0 ∷ 0 ∷ [])) (quad_is s p) ∙ sym (ap none_each (quad_is s p)) ∙ none-set 4 s p
 
   pub size-four : ones (get_or s 0 0) + ones (get_or s 1 0) + ones (get_or s 2 0) + ones (get_or s 3 0) ≡ size (as_set s)
   unfolding size_each

@@ -5,7 +5,6 @@
 --     formula-clauses, formula-state, formula-tables     one more formula clause, for the reader, as long as there is no derived one
 --     clause-count, literal-count, variable-count        the state's counts are the model's
 --     room-is, room-told, room-one, room-two, step_room  whether there is room, and what the leaves require
---     steps-kept, variables-kept, room_next, room-variable, fork-..     for the leaves that are made of others
 use mathlib.Core.Path.{◌≡◌, refl, ap, sym, ◌∙◌}
 use mathlib.Core.Bool.{true, false, ◌||◌}
 use mathlib.Core.List.{List, [], ◌∷◌, ◌++◌, append_assoc, append-nil}
@@ -170,42 +169,6 @@ room-is s a b c e =
     let xy = or_no (x || y) z e in
     let both = or_no x y xy.0 in
     record { clauses-fit = ltb-false _ _ both.0; literals-fit = ltb-false _ _ both.1; variables-fit = ltb-false _ _ xy.1 }
-
--- ---- room for what comes next, and the steps
-
-module _ (s : State) (left : ℕ) {r : State} (e : r ≡ clause_ended s left) where
-  pub steps-kept : r.steps.0 ≡ s.steps.0
-  unfolding clause_ended
-  steps-kept = ap (λ (x : State). x.steps.0) e
-
-  pub room_next : (right : ℕ) → RoomFor s 2 (left + right) 1 → RoomFor r 1 right 0
-  unfolding clause_ended
-  room_next right f = rw e (record { clauses-fit = omega (arith, f.clauses-fit); literals-fit = omega (arith, f.literals-fit); variables-fit = omega (arith, f.variables-fit) })
-
-  pub room-variable : RoomFor s 1 left 0 → s.variables.0 < variable_limit → RoomFor r 0 0 1
-  unfolding clause_ended
-  room-variable f h = rw e (record { clauses-fit = omega (arith, f.clauses-fit); literals-fit = omega (arith, f.literals-fit); variables-fit = omega arith })
-
-  pub variables-kept : r.variables.0 ≡ s.variables.0
-  unfolding clause_ended
-  variables-kept = ap (λ (x : State). x.variables.0) e
-
--- two clauses, a variable and a step, one after the other
-module _ (s : State) (left right : ℕ) {first second added : State} (e : first ≡ clause_ended s left) (f : second ≡ clause_ended first right) (g : added ≡ variable_added second) where
-  pub fork-steps : added.steps.0 ≡ s.steps.0
-  unfolding variable_added
-  fork-steps = ap (λ (r : State). r.steps.0) g ∙ steps-kept first right f ∙ steps-kept s left e
-
-  pub fork-state : {r : State} → r ≡ step_counted added → r ≡ step_counted (variable_added (clause_ended (clause_ended s left) right))
-  fork-state h = h ∙ ap step_counted (g ∙ ap variable_added (f ∙ ap (λ (r : State). clause_ended r right) e))
-
-  pub fork_ends : (ends : List ℕ) {one two : List ℕ} → one ≡ set ends s.clauses.0 (s.literals + left) → two ≡ set one first.clauses.0 (first.literals + right)
-      → two ≡ set (set ends s.clauses.0 (s.literals + left)) (s.clauses.0 + 1) (s.literals + left + right)
-  unfolding clause_ended
-  fork_ends ends p q = q ∙ rw (p, e)
-
-  pub fork-entry : (l : List ℕ) (x : ℕ) {l' : List ℕ} → l' ≡ set l second.variables.0 x → l' ≡ set l s.variables.0 x
-  fork-entry l x p = p ∙ rw (variables-kept first right f, variables-kept s left e)
 
 -- ---- one more formula clause, as long as there is no derived one
 

@@ -17,6 +17,8 @@ use lib.Seq.{length-take-le}
 use Rattle.dqbf.specs.Limits.{variable_limit}
 use Rattle.dqbf.specs.Set.{Set, empty_set, common, size}
 use Rattle.dqbf.proofs.Laws.Tests.{either}
+use Rattle.tables.specs.declared.LentMut.{LentMut}
+use Rattle.tables.specs.Lent.{SameLoans}
 use Rattle.sets.specs.Words.{words_each, table_words, none_each, as_set, as_sets, spare_in}
 use Rattle.sets.proofs.Laws.Sets.{sets-length, sets-take, sets-drop, sets-zeros, spare-zeros, sets-none}
 use Rattle.tables.specs.Tables.{stretch, entry}
@@ -42,6 +44,8 @@ leb-words w = go (either (leb table_words (length w)))
     go : (leb table_words (length w) ≡ true) ⊎ (leb table_words (length w) ≡ false) → leb variable_limit (length (as_sets words_each w)) ≡ leb table_words (length w)
     go (inl e) = le-leb _ _ (words_long w (leb-true _ _ e)) ∙ sym e
     go (inr e) = lt-leb _ _ (short-words w (leb-false _ _ e)) ∙ sym e
+
+pub ruleset word_tests = (leb-words)
 
 pub taken-sets : (w : List ℕ) (n : ℕ) → 4 * n ≤ length w → as_sets words_each (take (4 * n) w) ≡ take n (as_sets words_each w)
 taken-sets w n h = sets-take 4 four w n (omega arith)
@@ -103,3 +107,11 @@ module _ (w : List ℕ) (h : table_words ≤ length w) where
   pub cleared-spare : {v : List ℕ} → v ≡ over table_words 0 [] w → spare_in words_each v ≡ spare_in words_each w
   unfolding over
   cleared-spare e = rw e (spare-zeros 4 four w 512 (omega arith))
+
+-- ---- the caller's loans
+
+pub same-loans : (a : LentMut) → SameLoans a a
+same-loans a = record { literals = refl; ends = refl; sets = refl; kinds = refl }
+
+pub loans-then : {a b c : LentMut} → SameLoans a b → SameLoans b c → SameLoans a c
+loans-then p q = record { literals = q.literals ∙ p.literals; ends = q.ends ∙ p.ends; sets = q.sets ∙ p.sets; kinds = q.kinds ∙ p.kinds }

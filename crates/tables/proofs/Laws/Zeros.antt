@@ -9,11 +9,11 @@ use Prim.Native.Nat.{ℕ, suc, ◌+◌, ◌≤◌, ◌<◌, ◌^◌}
 use native.Mathlib.Nat.{sub-zero}
 use native.Mathlib.Numerals.{add-one}
 use native.Mathlib.Omega.{arith}
-use borrow.Author.Tests.{ne_eqb, eqb-true, eqb-false}
+use borrow.Author.Tests.{eq-eqb, ne_eqb, eqb-true, eqb-false}
 use lib.Dec.{eqb}
 use mir.Syntax.{w16}
 use mir.Val.{to_z, of_z}
-use lib.IntN.{ℤ, pos, negsuc}
+use lib.IntN.{ℤ, pos, negsuc, nat_abs}
 use lib.Signed.{mag}
 use lib.ListN.{length, get_or, drop, set, replicate, length-replicate, replicate-append-replicate}
 use lib.Seq.{drop-cons, set_at}
@@ -25,7 +25,11 @@ use Rattle.dqbf.proofs.Laws.Tests.{either}
 use Rattle.sets.specs.Words.{words_each, as_sets, spare_in}
 use Rattle.tables.specs.Tables.{Tables, tables_of}
 use Rattle.tables.specs.Spread.{flat, ends_from, over, spread, kind_row, set_row, blank}
-use Rattle.tables.specs.WellFormed.{is_zero, is_zero_literal}
+use Rattle.std.proofs.Common.{nat_eq}
+use Rattle.std.specs.Bool.{Decides}
+use Rattle.std.specs.Ordering.{int_eq}
+use Rattle.std.proofs.lemmas.Bool.Decides.{same_from_decides, Decides-int_eq}
+use Rattle.tables.specs.WellFormed.{all_of, is_zero, is_zero_literal}
 
 pub zero-told : (x : ℕ) → eqb x 0 ≡ is_zero x
 unfolding is_zero
@@ -46,6 +50,24 @@ zero-literal-told l h = go (either (eqb (of_z w16 l) 0))
     go : (eqb (of_z w16 l) 0 ≡ true) ⊎ (eqb (of_z w16 l) 0 ≡ false) → eqb (of_z w16 l) 0 ≡ is_zero_literal l
     go (inl e) = e ∙ sym (zero-literal-yes l h (eqb-true (of_z w16 l) 0 e))
     go (inr e) = e ∙ sym (zero-literal-no l (eqb-false (of_z w16 l) 0 e))
+
+-- entries that equal 0, as the code compares them
+pub zero-entries : (l : List ℕ) → all_of (λ x. nat_eq x 0) l ≡ all_of is_zero l
+unfolding is_zero
+zero-entries l = refl
+
+zero-literal : (x : ℤ) → int_eq x (pos 0) ≡ is_zero_literal x
+unfolding is_zero_literal same
+zero-literal x = same_from_decides _ _ (Decides-int_eq x (pos 0)) (told x)
+  where
+    told : (x : ℤ) → Decides (is_zero_literal x) (x ≡ pos 0)
+    told (pos n) = (λ e. ap pos (eqb-true n 0 e), λ e. eq-eqb n 0 (ap nat_abs e))
+    told (negsuc n) = (λ e. absurd (cc e), λ e. absurd (cc e))
+
+pub zero-literals : (l : List ℤ) → all_of (λ x. int_eq x (pos 0)) l ≡ all_of is_zero_literal l
+unfolding all_of
+zero-literals [] = refl
+zero-literals (x ∷ l) = rw (zero-literals l, zero-literal x)
 
 module _ {A : Type 0} (z : A) where
   pub cleared-next : (t t₀ : List A) (i : ℕ) → i < length t₀ → t ≡ replicate i z ++ drop i t₀ → set t i z ≡ replicate (i + 1) z ++ drop (i + 1) t₀

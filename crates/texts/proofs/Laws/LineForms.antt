@@ -15,26 +15,27 @@ use Rattle.dqbf.specs.Reading.{Form, comment, header, a_line, e_line, d_line, cl
 use Rattle.dqbf.proofs.Laws.Lists.{nth}
 use Rattle.dqbf.proofs.Reading.Lines.{new_on, form-positive, universals-append, universals-e}
 use Rattle.ranks.specs.Order.{all_inserted}
+use Rattle.std.specs.Prelude.{None, Some}
 use Rattle.forms.specs.Shapes.{Formed}
 use Rattle.forms.specs.declared.form.Shape.{Shape}
-use Rattle.forms.specs.declared.form.Shape.TheVariants.{Comment, Header, Universals, Existentials, Dependent, Malformed}
+use Rattle.forms.specs.declared.form.Shape.TheVariants.{Comment, Header, Universals, Existentials, Dependent}
 use Rattle.forms.specs.declared.form.Shape.TheVariants as shape
 use Rattle.forms.proofs.Laws.Shapes.{Front, shape-comment, shape-header, shape-malformed, shape-universals, shape-existentials, shape-dependent, shape-clause}
 use Rattle.prefix_lines.specs.Lines.{Known}
 
 -- ---- the form
 
-module _ (line : List ℕ) {a : Shape} (out : List ℕ) (formed : Formed (form_of line) a out) where
+module _ (line : List ℕ) {a : Shape} (out : List ℕ) (formed : Formed (form_of line) (Some a) out) where
   pub form-comment : a ≡ Comment → form_of line ≡ comment
   form-comment e = shape-comment (form_of line) out (rw e at formed)
 
   pub form-header : (v c : ℕ) → a ≡ Header v c → form_of line ≡ header v c
   form-header v c e = shape-header (form_of line) v c out (rw e at formed)
 
-  pub form-malformed : a ≡ Malformed → form_of line ≡ no_form
-  form-malformed e = shape-malformed (form_of line) out (rw e at formed)
+pub form-malformed : (line out : List ℕ) → Formed (form_of line) None out → form_of line ≡ no_form
+form-malformed line out formed = shape-malformed (form_of line) out formed
 
-module _ (line : List ℕ) {a : Shape} (n : ℕ) (out : List ℕ) (formed : Formed (form_of line) a out) where
+module _ (line : List ℕ) {a : Shape} (n : ℕ) (out : List ℕ) (formed : Formed (form_of line) (Some a) out) where
   abbrev xs : List ℕ
   xs = take n out
 

@@ -7,7 +7,7 @@ use mathlib.Core.Path.{◌≡◌, refl, ap, sym, ◌∙◌}
 use mathlib.Core.Bool.{true, false, not, ◌||◌}
 use mathlib.Core.List.Memᴰ
 use mathlib.Core.List.{List, [], ◌++◌, map, append_assoc, append-nil}
-use mathlib.Core.Option.{none}
+use mathlib.Core.Option.{none, some}
 use Prim.Native.Nat.{ℕ, zero, suc, ◌+◌, ◌-◌, ◌≤◌, ◌<◌}
 use native.Mathlib.Omega.{arith}
 use borrow.Author.Tests.{lt-ltb, le-ltb}
@@ -25,9 +25,9 @@ use Rattle.dqbf.proofs.Reading.Lines.{Sane, new_on, sane-form}
 use Rattle.tables.specs.Tables.{Tables}
 use Rattle.tables.specs.Spread.{flat, ends_from, over, spread, state_of, kind_row, set_row}
 use Rattle.tables.specs.declared.State.{State}
-use Rattle.prefix_lines.specs.Lines.{phase_number, progress_of, refusal_of, ReadSoFar, LineRead}
+use Rattle.prefix_lines.specs.Lines.{Carried, phase_told, carried_of, ReadSoFar, LineRead}
 use Rattle.texts.specs.Texts.{empty_state}
-use Rattle.prefix_lines.specs.declared.progress.Progress.{Progress}
+use Rattle.prefix_lines.specs.declared.progress.Phase.TheVariants.{Opening, PrefixLines}
 use Rattle.prefix_lines.proofs.Laws.Models.{model-universals}
 use Rattle.prefix_lines.proofs.Laws.Reading.{counts_of, model-state, phase-is, phase-opening, phase-late, framed}
 use Rattle.prefix_lines.proofs.Laws.Declaring.{no-tests}
@@ -64,40 +64,40 @@ bare-spread v t low = λ i. record {
   kinds = bare-row (λ x. 0) (λ x. refl) v t.kinds low i;
 }
 
-module _ {t : Tables} {r : Reader} {p : Progress} {now : Tables} (h : ReadSoFar t r p now) where
-  late : (p.phase ≡ 0 → ⊥) → not (is_opening r.phase) ≡ true
+module _ {t : Tables} {r : Reader} {p : Carried} {now : Tables} (h : ReadSoFar t r p now) where
+  late : (p.phase ≡ Opening → ⊥) → not (is_opening r.phase) ≡ true
   late n = rw (phase-late r (phase-is h) n).0
 
   -- ---- comments
 
-  pub comment-late : (p.phase ≡ 0 → ⊥) → LineRead t r comment (record { progress = p; refusal = 10 }) now
+  pub comment-late : (p.phase ≡ Opening → ⊥) → LineRead t r comment (some (refusal 10)) p now
   unfolding line_tests
-  comment-late n = line_refused 10 (omega arith) (framed h) (test-fails 10 _ _ (omega arith) (late n))
+  comment-late n = line_refused (refusal 10) (framed h) (test-fails (refusal 10) _ _ (late n))
 
-  pub malformed : LineRead t r no_form (record { progress = p; refusal = 10 }) now
+  pub malformed : LineRead t r no_form (some (refusal 10)) p now
   unfolding line_tests
-  malformed = line_refused 10 (omega arith) (framed h) (test-fails 10 _ _ (omega arith) refl)
+  malformed = line_refused (refusal 10) (framed h) (test-fails (refusal 10) _ _ refl)
 
-  module _ (e : p.phase ≡ 0) where
+  module _ (e : p.phase ≡ Opening) where
     ten : not (is_opening r.phase) ≡ false
     unfolding is_opening
     ten = rw (phase-opening r (phase-is h) e)
 
-    pub comment-read : LineRead t r comment (record { progress = p; refusal = 0 }) now
-    unfolding line_tests taken refusal_of
+    pub comment-read : LineRead t r comment none p now
+    unfolding line_tests taken
     comment-read = line_taken (pass _ _ _ ten no-tests) h
 
     -- ---- the header
 
     module _ (v c : ℕ) where
-      h-11 : (ltb variable_limit v || ltb clause_limit c) ≡ true → LineRead t r (header v c) (record { progress = p; refusal = 11 }) now
+      h-11 : (ltb variable_limit v || ltb clause_limit c) ≡ true → LineRead t r (header v c) (some (refusal 11)) p now
       unfolding line_tests
-      h-11 q = line_refused 11 (omega arith) (framed h) (test-passes (refusal 10) _ _ ten ∙ test-fails 11 _ _ (omega arith) q)
+      h-11 q = line_refused (refusal 11) (framed h) (test-passes (refusal 10) _ _ ten ∙ test-fails (refusal 11) _ _ q)
 
-      pub header-bound : variable_limit < v → LineRead t r (header v c) (record { progress = p; refusal = 11 }) now
+      pub header-bound : variable_limit < v → LineRead t r (header v c) (some (refusal 11)) p now
       header-bound q = h-11 (or_left (ltb variable_limit v) (ltb clause_limit c) (lt-ltb variable_limit v q))
 
-      pub header-count : clause_limit < c → LineRead t r (header v c) (record { progress = p; refusal = 11 }) now
+      pub header-count : clause_limit < c → LineRead t r (header v c) (some (refusal 11)) p now
       header-count q = h-11 (or_right (ltb variable_limit v) (ltb clause_limit c) (lt-ltb clause_limit c q))
 
       module _ (low : v ≤ variable_limit) (few : c ≤ clause_limit) where
@@ -116,18 +116,18 @@ module _ {t : Tables} {r : Reader} {p : Progress} {now : Tables} (h : ReadSoFar 
         tables-empty : now ≡ spread (model_of (bare v)) t
         tables-empty = h.tables ∙ ap (λ (x : Reader). spread (model_of x.formula) t) (h.opened (phase-opening r (phase-is h) e)) ∙ sym (bare-spread v t low)
 
-        pub header_read : {s : State} → s ≡ empty_state v → LineRead t r (header v c) (record { progress = record { phase = 1; count = c; state = s }; refusal = 0 }) now
-        unfolding taken refusal_of progress_of phase_number word_of universals_of
+        pub header_read : {s : State} → s ≡ empty_state v → LineRead t r (header v c) none (record { phase = PrefixLines; count = c; state = s }) now
+        unfolding taken carried_of phase_told word_of universals_of
         header_read q =
             line_taken passes (record {
               lent = h.lent;
               sane = sane;
-              opened = λ z. absurd (let o : ◌≡◌ {A = ℕ} 0 1 = cc in omega arith);
+              opened = λ z. cc;
               few = omega arith;
-              progress = λ i. record { phase = 1; count = c; state = (q ∙ state-empty) i };
+              progress = λ i. record { phase = PrefixLines; count = c; state = (q ∙ state-empty) i };
               tables = tables-empty;
             })
 
-  pub header-late : (p.phase ≡ 0 → ⊥) → (v c : ℕ) → LineRead t r (header v c) (record { progress = p; refusal = 10 }) now
+  pub header-late : (p.phase ≡ Opening → ⊥) → (v c : ℕ) → LineRead t r (header v c) (some (refusal 10)) p now
   unfolding line_tests
-  header-late n v c = line_refused 10 (omega arith) (framed h) (test-fails 10 _ _ (omega arith) (late n))
+  header-late n v c = line_refused (refusal 10) (framed h) (test-fails (refusal 10) _ _ (late n))

@@ -1,16 +1,21 @@
 -- Lines and tokens: `pieces` from the left by `length_before`, and the token that `next_token` cuts.
 -- For a loop over lines: `line-at-inside`, `line-at-last`, `line-at-more`.
 use mathlib.Core.Path.{◌≡◌, refl, sym, ap, ap₂, ◌∙◌}
-use mathlib.Core.Bool.{Bool, true, false, cond, ◌||◌}
-use mathlib.Core.List.{List, [], ◌∷◌}
+use mathlib.Core.Bool.{Bool, true, false, cond, not, ◌||◌}
+use mathlib.Core.List.{List, [], ◌∷◌, ◌++◌}
 use Prim.Native.Nat.{ℕ, zero, suc, ◌+◌, ◌-◌, ◌≤◌, ◌<◌}
 use native.Mathlib.Nat.{suc_inj, suc-ne-zero, le_of_suc-le-suc, not-suc-le-zero}
 use native.Mathlib.Numerals.{add-one}
 use native.Mathlib.Omega.{arith}
 use lib.Dec.{eqb, ltb}
-use lib.ListN.{length, take, drop, get_or, drop_of_length-le, length-drop}
-use lib.Seq.{drop-cons, drop-drop, take_all}
-use borrow.Author.Tests.{eq-eqb, ne_eqb, eqb-true, eqb-false, ltb-true, ltb-false, lt-ltb, le-ltb}
+use lib.ListN.{length, take, drop, length-drop}
+use lib.Seq.{drop-drop, take_all, length-take-le, take-append_seam, drop-append_seam}
+use Rattle.std.proofs.lemmas.List.{length-append}
+use Rattle.std.specs.Option.{unwrap_or}
+use Rattle.std.specs.List.{fold, position, position_or_len}
+use Rattle.std.proofs.lemmas.List.Recursion.{is_position_or_len}
+use Rattle.std.specs.Prelude.{Some, None}
+use borrow.Author.Tests.{ltb-true, ltb-false, lt-ltb, le-ltb}
 use Rattle.dqbf.specs.Text.{line_feed, space, onto, pieces, is_empty}
 use Rattle.dqbf.proofs.Laws.Parts.{tail-lent}
 use Rattle.tokens.specs.Lines.{first_of, line_length}
@@ -18,17 +23,13 @@ use Rattle.tokens.specs.Working.{length_before, leading, is_nil, words, words_of
 
 -- ---- length_before
 
-pub before-hit : (s : ℕ) (l : List ℕ) (i : ℕ) → i < length l → get_or l i 0 ≡ s → length_before s (drop i l) ≡ 0
-unfolding length_before
-before-hit s l i h e = rw (drop-cons l i 0 h, eq-eqb _ _ e)
-
-pub before-miss : (s : ℕ) (l : List ℕ) (i : ℕ) → i < length l → (get_or l i 0 ≡ s → ⊥) → length_before s (drop i l) ≡ suc (length_before s (drop (i + 1) l))
-unfolding length_before
-before-miss s l i h n = rw (add-one, drop-cons l i 0 h, ne_eqb _ _ n)
-
-pub before-end : (s : ℕ) (l : List ℕ) (i : ℕ) → length l ≤ i → length_before s (drop i l) ≡ 0
-unfolding length_before
-before-end s l i h = rw (drop_of_length-le l h)
+-- with one more on either side
+less_suc : (m n : ℕ) → ltb (suc m) (suc n) ≡ ltb m n
+less_suc m n = go (ltb m n) refl
+  where
+    go : (t : Bool) → ltb m n ≡ t → ltb (suc m) (suc n) ≡ t
+    go true e = let h = ltb-true m n e in lt-ltb (suc m) (suc n) (omega arith)
+    go false e = let h = ltb-false m n e in le-ltb (suc m) (suc n) (omega arith)
 
 pub before-le : (s : ℕ) (l : List ℕ) → length_before s l ≤ length l
 unfolding length_before
@@ -51,47 +52,70 @@ before_split s (b ∷ bs) (suc k) h = go (eqb b s) h (before_split s bs k)
     go true h r = absurd (omega arith)
     go false h r = let e = r (omega arith) in omega arith
 
+-- whether s is among the n bytes in front
+before_taken : (s : ℕ) (l : List ℕ) (n : ℕ) → ltb (length_before s (take n l)) n ≡ ltb (length_before s l) n
+unfolding length_before
+before_taken s l zero = le-ltb (length_before s (take 0 l)) 0 (omega arith) ∙ sym (le-ltb (length_before s l) 0 (omega arith))
+before_taken s [] (suc n) = refl
+before_taken s (b ∷ bs) (suc n) = go (eqb b s) (before_taken s bs n)
+  where
+    go : (t : Bool) → ltb (length_before s (take n bs)) n ≡ ltb (length_before s bs) n
+        → ltb (cond t 0 (suc (length_before s (take n bs)))) (suc n) ≡ ltb (cond t 0 (suc (length_before s bs))) (suc n)
+    go true e = refl
+    go false e = less_suc _ n ∙ e ∙ sym (less_suc _ n)
+
 pub before-pass : (s : ℕ) (l : List ℕ) (i k : ℕ) → k ≤ length_before s (drop i l) → length_before s (drop i l) ≡ k + length_before s (drop (i + k) l)
 before-pass s l i k h = before_split s (drop i l) k h ∙ ap (λ (m : List ℕ). k + length_before s m) (drop-drop k i l)
 
--- ---- `block_has`: those up to k are looked at
+-- ---- what `position` and `fold` find
 
-pub block_none : (s : ℕ) (l : List ℕ) (i : ℕ) → false ≡ ltb (length_before s (drop i l)) 0
-block_none s l i = sym (le-ltb (length_before s (drop i l)) 0 (omega arith))
-
-pub block_more : (s : ℕ) (l : List ℕ) (i k : ℕ) (found : Bool) → found ≡ ltb (length_before s (drop i l)) k → i + k < length l
-    → (found || eqb (get_or l (i + k) 0) s) ≡ ltb (length_before s (drop i l)) (k + 1)
-block_more s l i k true so_far h =
-    let m = ltb-true (length_before s (drop i l)) k (sym so_far) in
-    sym (lt-ltb (length_before s (drop i l)) (k + 1) (omega arith))
-block_more s l i k false so_far h = go (eqb (get_or l (i + k) 0) s) refl
+first_is : (p : ℕ → Bool) (l : List ℕ) (n : ℕ) → position_or_len p l ≡ n → n ≤ length l → unwrap_or (position p l) (length l) ≡ n
+first_is p l n e h = rw e (go (ltb n (length l)) refl)
   where
-    passed : length_before s (drop i l) ≡ k + length_before s (drop (i + k) l)
-    passed = before-pass s l i k (ltb-false (length_before s (drop i l)) k (sym so_far))
+    go : (t : Bool) → ltb n (length l) ≡ t → unwrap_or (cond t (Some n) None) (length l) ≡ n
+    go true f = refl
+    go false f = let k = ltb-false n (length l) f in omega arith
 
-    go : (t : Bool) → eqb (get_or l (i + k) 0) s ≡ t → t ≡ ltb (length_before s (drop i l)) (k + 1)
-    go true e =
-        let z = before-hit s l (i + k) h (eqb-true (get_or l (i + k) 0) s e) in
-        let p = passed in
-        sym (lt-ltb (length_before s (drop i l)) (k + 1) (omega arith))
-    go false e =
-        let z = before-miss s l (i + k) h (eqb-false (get_or l (i + k) 0) s e) in
-        let p = passed in
-        sym (le-ltb (length_before s (drop i l)) (k + 1) (omega arith))
+pub before-first : (s : ℕ) (l : List ℕ) → unwrap_or (position (λ b. eqb b s) l) (length l) ≡ length_before s l
+unfolding length_before
+before-first s l = first_is (λ b. eqb b s) l (length_before s l) (sym (is_position_or_len (length_before s) (λ b. eqb b s) refl (λ b bs. go (eqb b s) (length_before s bs)) l)) (before-le s l)
+  where
+    go : (t : Bool) (n : ℕ) → cond t 0 (suc n) ≡ cond t 0 (1 + n)
+    go true n = refl
+    go false n = omega arith
+
+pub before-any : (s : ℕ) (l : List ℕ) (found : Bool) → fold (λ (t : Bool) b. t || eqb b s) found l ≡ (found || ltb (length_before s l) (length l))
+unfolding length_before
+before-any s [] true = refl
+before-any s [] false = refl
+before-any s (b ∷ bs) found = before-any s bs (found || eqb b s) ∙ go found (eqb b s)
+  where
+    go : (t u : Bool) → ((t || u) || ltb (length_before s bs) (length bs)) ≡ (t || ltb (cond u 0 (suc (length_before s bs))) (suc (length bs)))
+    go true u = refl
+    go false true = sym (lt-ltb 0 (suc (length bs)) (omega arith))
+    go false false = sym (less_suc (length_before s bs) (length bs))
+
+-- the block of the n bytes from i on
+pub before-block : (s : ℕ) (l : List ℕ) (i n : ℕ) → i + n ≤ length l → ltb (length_before s (take (i + n - i) (drop i l))) (length (take (i + n - i) (drop i l))) ≡ ltb (length_before s (drop i l)) n
+before-block s l i n h =
+    let e : i + n - i ≡ n = omega arith in
+    rw (e, length-take-le n (drop i l) (omega (arith, length-drop i l))) (before_taken s (drop i l) n)
+
+-- a piece of n bytes off what is left from i on, and what is left behind it
+module _ (l : List ℕ) (i n : ℕ) (left piece next : List ℕ) (from : left ≡ drop i l) (cut : left ≡ piece ++ next) (size : length piece ≡ n) where
+  pub piece-before : (s : ℕ) → ltb (length_before s piece) (length piece) ≡ ltb (length_before s (drop i l)) n
+  piece-before s = ap₂ (λ (p : List ℕ) (k : ℕ). ltb (length_before s p) k) (sym front) size ∙ before_taken s (drop i l) n
+    where
+      front : take n (drop i l) ≡ piece
+      front = ap₂ take (sym size) (sym from ∙ cut) ∙ take-append_seam piece next
+
+  pub piece-next : next ≡ drop (i + n) l
+  piece-next = sym (ap₂ drop (sym size) (sym from ∙ cut) ∙ drop-append_seam piece next) ∙ drop-drop n i l
+
+  pub piece-inside : n ≤ length left
+  piece-inside = let h : length left ≡ length piece + length next = ap length cut ∙ length-append piece next in omega (arith, h, size)
 
 -- ---- leading
-
-pub leading-hit : (s : ℕ) (l : List ℕ) (i : ℕ) → i < length l → get_or l i 0 ≡ s → leading s (drop i l) ≡ suc (leading s (drop (i + 1) l))
-unfolding leading
-leading-hit s l i h e = rw (add-one, drop-cons l i 0 h, eq-eqb _ _ e)
-
-pub leading-miss : (s : ℕ) (l : List ℕ) (i : ℕ) → i < length l → (get_or l i 0 ≡ s → ⊥) → leading s (drop i l) ≡ 0
-unfolding leading
-leading-miss s l i h n = rw (drop-cons l i 0 h, ne_eqb _ _ n)
-
-pub leading_end : (s : ℕ) (l : List ℕ) (i : ℕ) → length l ≤ i → leading s (drop i l) ≡ 0
-unfolding leading
-leading_end s l i h = rw (drop_of_length-le l h)
 
 pub leading_le : (s : ℕ) (l : List ℕ) → leading s l ≤ length l
 unfolding leading
@@ -101,6 +125,14 @@ leading_le s (b ∷ bs) = go (eqb b s) (leading_le s bs)
     go : (t : Bool) → leading s bs ≤ length bs → cond t (suc (leading s bs)) 0 ≤ suc (length bs)
     go true h = omega arith
     go false h = omega arith
+
+pub leading-first : (s : ℕ) (l : List ℕ) → unwrap_or (position (λ b. not (eqb b s)) l) (length l) ≡ leading s l
+unfolding leading
+leading-first s l = first_is (λ b. not (eqb b s)) l (leading s l) (sym (is_position_or_len (leading s) (λ b. not (eqb b s)) refl (λ b bs. go (eqb b s) (leading s bs)) l)) (leading_le s l)
+  where
+    go : (t : Bool) (n : ℕ) → cond t (suc n) 0 ≡ cond (not t) 0 (1 + n)
+    go true n = omega arith
+    go false n = refl
 
 -- behind what leads, a piece is not empty
 leading-before : (s : ℕ) (l : List ℕ) → leading s l < length l → 0 < length_before s (drop (leading s l) l)

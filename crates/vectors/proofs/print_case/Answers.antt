@@ -5,7 +5,7 @@ use Rattle.lines.proofs.Laws.Lines.{written-inside}
 use Rattle.vectors.proofs.print_case.Goals as goal
 
 pub slice_bounds-out-end : goal.slice_bounds-out-end
-slice_bounds-out-end g c = written-inside _ _ _ c.judge-written.ensures.0 c.judge-written.ensures.1 c.in-Bytes.is
+slice_bounds-out-end g c = written-inside _ _ _ c.judge-written.ensures.after.0 c.judge-written.ensures.after.1 c.in-Some.is
 
-pub slice_bounds-write_all-end-in-Bytes : goal.slice_bounds-write_all-end-in-Bytes
-slice_bounds-write_all-end-in-Bytes g c = sym (length-take-le _ _ (written-inside _ _ _ c.judge-written.ensures.0 c.judge-written.ensures.1 c.in-Bytes.is))
+pub slice_bounds-write_all-end-in-Some : goal.slice_bounds-write_all-end-in-Some
+slice_bounds-write_all-end-in-Some g c = sym (length-take-le _ _ (written-inside _ _ _ c.judge-written.ensures.after.0 c.judge-written.ensures.after.1 c.in-Some.is))

@@ -20,15 +20,15 @@ use Rattle.tables.specs.declared.State.{State}
 use Rattle.tables.proofs.Laws.Spread.{model-back, formed-spread, long-spread}
 use Rattle.tables.proofs.Refinement.{last-counts}
 use Rattle.dqdimacs.specs.Loading.{AfterLoad, load_answer, loaded_model, loaded_on, load_short, load_of}
-use Rattle.dqdimacs.specs.declared.LoadAnswer.{LoadAnswer}
-use Rattle.dqdimacs.specs.declared.LoadAnswer.TheVariants as LoadAnswer
+use Rattle.dqdimacs.specs.Loading.{LoadAnswer}
 use Rattle.steps.specs.Steps.{run_told, AfterRun, ran_on, run_of}
-use Rattle.steps.specs.declared.RunAnswer.{RunAnswer}
+use Rattle.std.specs.Prelude.{Result}
+use Rattle.steps.specs.declared.BadStep.{BadStep}
+use Rattle.steps.specs.declared.Outcome.{Outcome}
 use Rattle.lines.specs.Lines.{line_of, written, with_line}
 use Rattle.verdict.specs.Judging.{judged_line, judged_model, judged_tables}
 use Rattle.lines.specs.declared.line.Verdict.{Verdict}
-use Rattle.lines.specs.declared.line.Verdict.TheVariants as Verdict
-use Rattle.lines.specs.declared.line.Written.{Written}
+use Rattle.std.specs.Prelude.{Option}
 
 -- ---- the load's outcomes
 
@@ -145,10 +145,10 @@ judged-ran t text records {t₁} {t₂} {s} {s₂} {l} {w} e q r =
     )
 
 -- the same of a verdict that is told
-pub ran-told : (a : RunAnswer) (v : Verdict) {L : List ℕ} {P : Type 0} → (verdict_line (run_told a) ≡ L) × P → line_of v ≡ verdict_line (run_told a) → (line_of v ≡ L) × P
+pub ran-told : (a : Result Outcome BadStep) (v : Verdict) {L : List ℕ} {P : Type 0} → (verdict_line (run_told a) ≡ L) × P → line_of v ≡ verdict_line (run_told a) → (line_of v ≡ L) × P
 ran-told a v h e = (e ∙ h.0, h.1)
 
 -- a line that is written
-pub line-written : (v : Verdict) {w : Written} (L out : List ℕ) {out' : List ℕ} {P : Type 0} → (line_of v ≡ L) × P → (w ≡ written (line_of v) out) × (out' ≡ with_line (line_of v) out)
+pub line-written : (v : Verdict) {w : Option ℕ} (L out : List ℕ) {out' : List ℕ} {P : Type 0} → (line_of v ≡ L) × P → (w ≡ written (line_of v) out) × (out' ≡ with_line (line_of v) out)
     → (w ≡ written L out) × (out' ≡ with_line L out) × P
 line-written v L out h e = (e.0 ∙ ap (λ (line : List ℕ). written line out) h.0, e.1 ∙ ap (λ (line : List ℕ). with_line line out) h.0, h.1)

@@ -1,5 +1,5 @@
--- What a load and a run over decoded tables leave in the buffers, and what a formula written from them leaves in the output.
--- Offers `run-told`, `load_told`, `write-told`.
+-- What a load leaves in the buffers.
+-- Offers `load-told`.
 use mathlib.Core.Path.{◌≡◌, ◌∙◌, ap}
 use mathlib.Core.List.{List}
 use Prim.Native.Nat.{ℕ, ◌/◌, ◌≤◌}
@@ -17,30 +17,14 @@ use Rattle.tables.specs.Spread.{spread}
 use Rattle.tables.specs.WellFormed.{every, long}
 use Rattle.tables.specs.declared.State.{State}
 use Rattle.tables.specs.Spread as Spread
-use Rattle.dqdimacs.specs.Loading.{AfterLoad, loaded_on, load_of}
-use Rattle.dqdimacs.specs.declared.Loaded.{Loaded}
-use Rattle.steps.specs.Steps.{run_told, AfterRun, run_of}
-use Rattle.steps.specs.declared.Ran.{Ran}
-use Rattle.formula_text.specs.Writing.{TextAnswer, AfterWrite, write_of}
+use Rattle.dqdimacs.specs.Loading.{LoadAnswer, AfterLoad, loaded_on, load_of}
 use Rattle.codec.specs.Bytes.{entries, bytes_of, literals_in, literal_bytes, over}
 use Rattle.codec.specs.State.{state_bytes}
-use Rattle.codec.specs.State as Codec
 use Rattle.codec.proofs.Laws.Bytes.{entries-length}
-use Rattle.codec.proofs.Laws.Turns.{literals-length}
-use Rattle.buffers.specs.Buffers.{Buffers, buffers_of, tables_in, state_in, written}
-use Rattle.results.specs.Results.{load_result, run_result, write_result}
-use Rattle.exports.specs.Calls.{After, loaded, ran, AfterWriteBytes, wrote}
-
--- what a run over decoded tables leaves
-module _ (b : Buffers) (records : List ℕ) where
-  pub run-told : {l : List ℤ} {e w : List ℕ} {s : State} → l ≡ literals_in literal_limit b.literals → e ≡ entries 2 clause_limit b.ends → w ≡ entries 8 table_words b.sets
-      → s ≡ Codec.state_in b.state → (t : Tables) (r : Ran)
-      → ◌≡◌ {A = AfterRun} (record { tables = t; state = r.state; answer = run_told r.answer }) (run_of (tables_of l e w b.kinds) s records)
-      → {literals ends sets state : List ℕ} → literals ≡ over (literal_bytes t.literals) b.literals → ends ≡ over (bytes_of 2 t.ends) b.ends
-      → sets ≡ over (bytes_of 8 (table_of words_each t.sets)) b.sets → state ≡ over (state_bytes r.state) b.state → {n : ℕ} → n ≡ run_result (run_told r.answer)
-      → ◌≡◌ {A = After} (record { buffers = buffers_of literals ends sets t.kinds state; result = n }) (ran b (run_of (tables_in b) (state_in b) records))
-  unfolding tables_in state_in ran written
-  run-told p q u v t r told lw ew sw tw nw = rw (lw, ew, sw, tw, nw) (ap (ran b) (rw (p, q, u, v) at told))
+use Rattle.codec.proofs.Laws.Tables.{literals-length}
+use Rattle.buffers.specs.Buffers.{Buffers, buffers_of, tables_in, written}
+use Rattle.results.specs.Results.{load_result}
+use Rattle.exports.specs.Calls.{After, loaded}
 
 -- a load reads no entry: of tables of the stated sizes only the kinds' entries past their size count
 load-unread : (kinds text : List ℕ) → 512 ≤ length kinds → (l l' : List ℤ) (e e' w w' : List ℕ) → length l ≡ 8192 → length l' ≡ 8192 → length e ≡ 2048 → length e' ≡ 2048
@@ -68,22 +52,14 @@ load-unread kinds text k l l' e e' w w' p p' q q' r r' =
     )
 
 module _ (b : Buffers) (text : List ℕ) (kinds-room : 512 ≤ length b.kinds) where
-  pub load_told : (l : List ℤ) (e w : List ℕ) → length l ≡ 8192 → length e ≡ 2048 → length w ≡ table_words → (t : Tables) (r : Loaded)
-      → ◌≡◌ {A = AfterLoad} (record { tables = t; state = r.state; answer = r.answer }) (load_of (tables_of l e w b.kinds) text)
-      → {literals ends sets state : List ℕ} → literals ≡ over (literal_bytes t.literals) b.literals → ends ≡ over (bytes_of 2 t.ends) b.ends
-      → sets ≡ over (bytes_of 8 (table_of words_each t.sets)) b.sets → state ≡ over (state_bytes r.state) b.state → {n : ℕ} → n ≡ load_result r.answer
-      → ◌≡◌ {A = After} (record { buffers = buffers_of literals ends sets t.kinds state; result = n }) (loaded b (load_of (tables_in b) text))
+  pub load-told : (l : List ℤ) (e w : List ℕ) → length l ≡ 8192 → length e ≡ 2048 → length w ≡ table_words → {t : Tables} {s : State} {a : LoadAnswer}
+      → ◌≡◌ {A = AfterLoad} (record { tables = t; state = s; answer = a }) (load_of (tables_of l e w b.kinds) text)
+      → {l' : List ℤ} {e' k' : List ℕ} (w' : List ℕ) → t ≡ tables_of l' e' w' k'
+      → {literals ends sets state : List ℕ} → literals ≡ over (literal_bytes l') b.literals → ends ≡ over (bytes_of 2 e') b.ends
+      → sets ≡ over (bytes_of 8 (table_of words_each (as_sets words_each w'))) b.sets → state ≡ over (state_bytes s) b.state → {n : ℕ} → n ≡ load_result a
+      → ◌≡◌ {A = After} (record { buffers = buffers_of literals ends sets k' state; result = n }) (loaded b (load_of (tables_in b) text))
   unfolding tables_in loaded written
-  load_told l e w p q u t r told lw ew sw tw nw =
+  load-told l e w p q u told w' h lw ew sw tw nw =
       let same = load-unread b.kinds text kinds-room l (literals_in literal_limit b.literals) e (entries 2 clause_limit b.ends) w (entries 8 table_words b.sets)
       p (literals-length literal_limit b.literals) q (entries-length 2 clause_limit b.ends) u (entries-length 8 table_words b.sets) in
-      rw (lw, ew, sw, tw, nw) (ap (loaded b) (told ∙ same))
-
--- what a formula written from decoded tables leaves
-module _ (b : Buffers) (out : List ℕ) where
-  pub write-told : {l : List ℤ} {e w : List ℕ} {s : State} → l ≡ literals_in literal_limit b.literals → e ≡ entries 2 clause_limit b.ends → w ≡ entries 8 table_words b.sets
-      → s ≡ Codec.state_in b.state → {a : TextAnswer} {output : List ℕ}
-      → ◌≡◌ {A = AfterWrite} (record { answer = a; output = output }) (write_of (tables_of l e w b.kinds) s out) → {n : ℕ} → n ≡ write_result a
-      → ◌≡◌ {A = AfterWriteBytes} (record { output = output; result = n }) (wrote (write_of (tables_in b) (state_in b) out))
-  unfolding tables_in state_in wrote
-  write-told p q u v told nw = rw nw (ap wrote (rw (p, q, u, v) at told))
+      rw (lw, ew, sw, tw, nw) (ap (loaded b) ((rw h at told) ∙ same))

@@ -41,9 +41,6 @@ laid-over text out h = laid-behind [] text out h
 
 -- ---- wrote
 
-pub wrote-same : {text : List ℕ} {at : ℕ} {out out' : List ℕ} {r : ℕ} → Wrote text at out out' r → length out' ≡ length out
-wrote-same {text} {at} {out} w = ap length w.left ∙ laid-length at text out
-
 pub wrote-both : {s t : List ℕ} {at p r : ℕ} {out mid out' : List ℕ} → Wrote s at out mid p → Wrote t p mid out' r → Wrote (s ++ t) at out out' r
 wrote-both {s} {t} {at} {p} {r} {out} {mid} {out'} w u = record {
   next = omega (arith, w.next, u.next, length-append s t);
@@ -69,9 +66,6 @@ writing-next s rest {at = at} {out = out} w u = record {
 pub writing-done : {text : List ℕ} {at₀ : ℕ} {out₀ : List ℕ} {at : ℕ} {out : List ℕ} → Writing text at₀ out₀ [] at out → Wrote text at₀ out₀ out at
 unfolding laid
 writing-done w = record { next = omega (arith, w.place); left = w.left }
-
-pub writing-same : {text : List ℕ} {at₀ : ℕ} {out₀ : List ℕ} {rest : List ℕ} {at : ℕ} {out : List ℕ} → Writing text at₀ out₀ rest at out → length out ≡ length out₀
-writing-same {text} {at₀} {out₀} {rest} {at} {out} w = sym (laid-length at rest out) ∙ ap length w.left ∙ laid-length at₀ text out₀
 
 -- room for what comes next
 pub writing-fits : {text : List ℕ} {at₀ : ℕ} {out₀ : List ℕ} (s rest : List ℕ) {at : ℕ} {out : List ℕ} → Writing text at₀ out₀ (s ++ rest) at out → Fits at₀ text → Fits at s

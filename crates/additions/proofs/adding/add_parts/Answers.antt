@@ -1,4 +1,4 @@
-use mathlib.Core.Path.{refl}
+-- `adding::add_parts` meets its contract.
 use native.Mathlib.Omega.{arith}
 use lib.ListN.{length-take, length-drop}
 use Rattle.dqbf.specs.Literal.{pick}
@@ -6,9 +6,9 @@ use Rattle.sets.specs.Words.{as_set}
 use Rattle.additions.proofs.Laws.Adding.{fork-full, fork-room, fork-variable, fork-asked, fork-added, new-fits, new-small}
 use Rattle.additions.proofs.adding.add_parts.Goals as goal
 
-pub returns-then-is_full : goal.returns-then-is_full
-returns-then-is_full c =
-    fork-full _ _ c.requires.0 (pick c.args.split.left c.args.clause.now) (pick c.args.split.right c.args.clause.now) (as_set c.args.split.set) c.requires.1.first c.requires.1.second c.is_full.ensures c.if-is_full.true c.refused.ensures
+pub returns-then-is_full-clause-after : goal.returns-then-is_full-clause-after
+returns-then-is_full-clause-after c =
+    fork-full _ _ c.requires.0 (pick c.args.split.left c.args.clause.now) (pick c.args.split.right c.args.clause.now) (as_set c.args.split.set) c.requires.1.first c.requires.1.second c.is_full.ensures c.if-is_full.true
 
 pub overflow_add-variable : goal.overflow_add-variable
 overflow_add-variable c =
@@ -30,10 +30,11 @@ pub write_fork-requires : goal.write_fork-requires
 write_fork-requires c =
     (c.requires.1.narrow, simp (length-take, length-drop) (omega (arith, fork-room _ _ c.requires.0 (pick c.args.split.left c.args.clause.now) (pick c.args.split.right c.args.clause.now) (as_set c.args.split.set) c.requires.1.first c.requires.1.second c.is_full.ensures c.if-is_full.false)), new-small _ (fork-variable _ _ c.requires.0 (pick c.args.split.left c.args.clause.now) (pick c.args.split.right c.args.clause.now) (as_set c.args.split.set) c.requires.1.first c.requires.1.second c.is_full.ensures c.if-is_full.false))
 
-pub add_fork-next-requires : goal.add_fork-next-requires
-add_fork-next-requires c =
+pub add_fork-requires : goal.add_fork-requires
+add_fork-requires c =
     fork-asked _ _ c.requires.0 (pick c.args.split.left c.args.clause.now) (pick c.args.split.right c.args.clause.now) (as_set c.args.split.set) c.requires.1.first c.requires.1.second c.is_full.ensures c.if-is_full.false
 
-pub returns : goal.returns
-returns c =
-    fork-added _ _ c.requires.0 (pick c.args.split.left c.args.clause.now) (pick c.args.split.right c.args.clause.now) (as_set c.args.split.set) c.requires.1.first c.requires.1.second c.is_full.ensures c.if-is_full.false c.write_fork.ensures.left refl c.add_fork-next.ensures.1 c.add_fork-next.ensures.2 c.add_fork-next.ensures.3 c.add_fork-next.ensures.4 c.add_fork-next.ensures.0
+pub returns-clause-after : goal.returns-clause-after
+returns-clause-after c =
+    let added = c.add_fork.ensures in
+    fork-added _ _ c.requires.0 (pick c.args.split.left c.args.clause.now) (pick c.args.split.right c.args.clause.now) (as_set c.args.split.set) c.requires.1.first c.requires.1.second c.is_full.ensures c.if-is_full.false c.write_fork.ensures.left added.literals added.ends added.sets added.spare added.kinds added.state

@@ -1,9 +1,12 @@
 use borrow.Author.Rules.{rules}
 use native.Mathlib.Omega.{arith}
-use borrow.Author.Rules.{sfits_of}
 use lib.ListN.{length-append}
 use mir.Syntax.{w16}
+use mathlib.Core.Path.{◌≡◌}
+use mir.Val.{to_z, of_z}
 use mir.Facts.{to_z-of_z}
+use lib.IntN.{pos, ◌-ℤ◌, neg_ℤ}
+use Rattle.std.proofs.lemmas.Int.{ints}
 use Rattle.clauses.proofs.Laws.Writing.{written_behind, tail-room}
 use mathlib.Core.List.{[], ◌∷◌}
 use Rattle.dqbf.specs.Literal.{pick}
@@ -39,5 +42,6 @@ pub returns : goal.returns
 returns c =
     let v = to_z-of_z c.ranges.variable in
     let left = rw v at c.write_part-count.ensures in
-    let right = rw (to_z-of_z {w = w16} (sfits_of c.negated.type_inv), c.negated.ensures, v) at c.write_part.ensures in
+    let negated : to_z w16 (of_z w16 (pos 0 -ℤ to_z w16 (of_z w16 c.args.variable))) ≡ neg_ℤ c.args.variable = omega (arith, ints) in
+    let right = rw negated at c.write_part.ensures in
     written_behind left (omega (arith, length-append (pick c.args.left c.args.clause.now) (c.args.variable ∷ []))) right

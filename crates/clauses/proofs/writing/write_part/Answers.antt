@@ -11,7 +11,6 @@ use mir.Syntax.{w16}
 use mir.Val.{to_z, of_z}
 use mir.Facts.{to_z-of_z}
 use Rattle.dqbf.specs.Literal.{pick}
-use Rattle.dqbf.proofs.Laws.Signed.{kept16}
 use Rattle.clauses.proofs.Laws.Clauses.{lowest-there, lowest-before, last-left}
 use Rattle.clauses.proofs.Laws.Writing.{writing_start, writing_more, writing-room, writing-done, written_as}
 use Rattle.clauses.proofs.writing.write_part.Goals as goal
@@ -41,7 +40,7 @@ pub loop-at-smaller : goal.loop-at-smaller
 loop-at-smaller c = let some = lowest-there c.args.clause.now c.loop-at.rest c.loop-at.at c.requires.0 c.loop-at.invariant.0 (omega arith) in omega (arith, and_le_r c.loop-at.rest (c.loop-at.rest - 1))
 
 pub loop-at-preserved : goal.loop-at-preserved
-loop-at-preserved c = let next = lowest-before c.args.clause.now c.loop-at.rest c.loop-at.at c.requires.0 c.loop-at.invariant.0 (to_z w16 (of_z w16 c.args.new)) (omega arith) in let room = writing-room c.loop-at.invariant.1 (omega (arith, length-append (pick c.args.mask c.args.clause.now) (to_z w16 (of_z w16 c.args.new) ∷ []))) next in (refl, writing_more c.loop-at.invariant.1 room next (kept16 c.l-1.given))
+loop-at-preserved c = let next = lowest-before c.args.clause.now c.loop-at.rest c.loop-at.at c.requires.0 c.loop-at.invariant.0 (to_z w16 (of_z w16 c.args.new)) (omega arith) in let room = writing-room c.loop-at.invariant.1 (omega (arith, length-append (pick c.args.mask c.args.clause.now) (to_z w16 (of_z w16 c.args.new) ∷ []))) next in (refl, writing_more c.loop-at.invariant.1 room next (to_z-of_z {w = w16} (search rules)))
 
 pub offset_bounds-tail-width-2 : goal.offset_bounds-tail-width-2
 offset_bounds-tail-width-2 c = let room = writing-room c.loop-at.invariant.1 (omega (arith, length-append (pick c.args.mask c.args.clause.now) (to_z w16 (of_z w16 c.args.new) ∷ []))) (last-left c.args.clause.now c.loop-at.rest c.loop-at.at c.requires.0 c.loop-at.invariant.0 (to_z w16 (of_z w16 c.args.new)) (omega arith)) in search rules

@@ -1,11 +1,7 @@
-use Prim.Native.Nat.{◌-◌, ◌≤◌}
 use lib.ListN.{drop}
 use Rattle.clauses.specs.Places.{but_at}
 use Rattle.clauses.proofs.Laws.Writing.{Writing}
 use Rattle.clauses.proofs.writing.write_without.Given as goal
 
 abbrev pub invariant-loop-i : goal.invariant-loop-i
-invariant-loop-i l = (l.i ≤ l.count) × Writing (but_at l.place l.clause) l.initial.tail l.tail l.i (drop l.i (but_at l.place l.clause))
-
-abbrev pub decreases-loop-i : goal.decreases-loop-i
-decreases-loop-i l = l.count - l.i
+invariant-loop-i l = Writing (but_at l.place l.clause) l.initial.tail l.tail l.i (drop l.i (but_at l.place l.clause))

@@ -1,26 +1,24 @@
 -- `literal::narrowed` meets its contract.
-use borrow.Author.Tests.{le-leb}
+use borrow.Author.Tests.{le-leb, lt-leb}
 use lib.IntN.{nat_abs}
 use mir.Facts.{to_z-of_z}
-use native.Mathlib.Omega.{arith}
-use Prim.Native.Nat.{◌≤◌}
-use Rattle.std.proofs.lemmas.Int.{ints}
+use Prim.Native.Nat.{◌≤◌, ◌<◌}
 use Rattle.dqbf.specs.Literal.{literal_in}
-use Rattle.dqbf.proofs.Laws.Signed.{below-range, above-range, range-fits}
+use Rattle.dqbf.proofs.Laws.Signed.{range-fits}
 use Rattle.dqbf.proofs.literal.narrowed.Goals as goal
 
-pub returns-then-x-ltminus32767 : goal.returns-then-x-ltminus32767
+pub returns-then-unsigned_abs-le32767 : goal.returns-then-unsigned_abs-le32767
 unfolding literal_in
-returns-then-x-ltminus32767 c = rw (below-range c.args.x (rw (to_z-of_z c.ranges.x) at c.if-x-ltminus32767.true))
-
-pub returns-then-x-gt32767 : goal.returns-then-x-gt32767
-unfolding literal_in
-returns-then-x-gt32767 c = rw (above-range c.args.x (rw (to_z-of_z c.ranges.x) at c.if-x-gt32767.true))
-
-pub returns : goal.returns
-unfolding literal_in
-returns c =
+returns-then-unsigned_abs-le32767 c =
     let f = c.ranges.x in
-    let x = c.args.x in
-    let within : nat_abs x ≤ 32767 = omega (arith, ints) in
-    rw (to_z-of_z f, to_z-of_z (range-fits x within), le-leb (nat_abs x) 32767 within)
+    let e = rw (to_z-of_z f) at c.unsigned_abs.ensures.value in
+    let within : nat_abs c.args.x ≤ 32767 = rw e at c.if-unsigned_abs-le32767.true in
+    rw (to_z-of_z f, to_z-of_z (range-fits c.args.x within), le-leb (nat_abs c.args.x) 32767 within)
+
+pub returns-else-unsigned_abs-le32767 : goal.returns-else-unsigned_abs-le32767
+unfolding literal_in
+returns-else-unsigned_abs-le32767 c =
+    let f = c.ranges.x in
+    let e = rw (to_z-of_z f) at c.unsigned_abs.ensures.value in
+    let beyond : 32767 < nat_abs c.args.x = rw e at c.if-unsigned_abs-le32767.false in
+    rw (lt-leb (nat_abs c.args.x) 32767 beyond)

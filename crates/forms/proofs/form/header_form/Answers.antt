@@ -1,18 +1,26 @@
-use native.Mathlib.Omega.{arith}
-use Rattle.forms.proofs.Laws.Forms.{header-bare, header-one, header-two, header-many, header_is}
+use Rattle.forms.proofs.Laws.Forms.{header-bare, header-one, header-two, header-many, header-other, header-no-v, header-no-c, header_is}
 use Rattle.forms.proofs.form.header_form.Goals as goal
 
-pub returns-then-i-line : goal.returns-then-i-line
-returns-then-i-line c = header-bare c.args.line.now c.args.i c.if-i-line.true
+pub returns-in_err-format : goal.returns-in_err-format
+returns-in_err-format c = rw c.from_residual.ensures (header-bare c.args.line.now c.args.i c.in_err-format.ensures)
 
-pub returns-then-e-line : goal.returns-then-e-line
-returns-then-e-line c = header-one c.args.line.now c.args.i (omega arith) c.next_token-t.result c.next_token-t.ensures c.if-e-line.true
+pub returns-in_err-variables : goal.returns-in_err-variables
+returns-in_err-variables c = rw c.from_residual-in_err-variables.ensures (header-one c.args.line.now c.args.i c.in_ok-format.format c.in_ok-format.ensures c.in_err-variables.ensures)
 
-pub returns-then-e2-line : goal.returns-then-e2-line
-returns-then-e2-line c = header-two c.args.line.now c.args.i (omega arith) c.next_token-t.result c.next_token-t.ensures (omega arith) c.next_token-t2.result c.next_token-t2.ensures c.if-e2-line.true
+pub returns-in_err-clauses : goal.returns-in_err-clauses
+returns-in_err-clauses c = rw c.from_residual-in_err-clauses.ensures (header-two c.args.line.now c.args.i c.in_ok-format.format c.in_ok-format.ensures c.in_ok-variables.variables c.in_ok-variables.ensures c.in_err-clauses.ensures)
 
-pub returns-then-e3-line : goal.returns-then-e3-line
-returns-then-e3-line c = header-many c.args.line.now c.args.i (omega arith) c.next_token-t.result c.next_token-t.ensures (omega arith) c.next_token-t2.result c.next_token-t2.ensures (omega arith) c.next_token-t3.result c.next_token-t3.ensures c.if-e3-line.true
+pub returns-then-clauses-line : goal.returns-then-clauses-line
+returns-then-clauses-line c = header-many c.args.line.now c.args.i c.in_ok-format.format c.in_ok-format.ensures c.in_ok-variables.variables c.in_ok-variables.ensures c.in_ok-clauses.clauses c.in_ok-clauses.ensures c.if-clauses-line.true
+
+pub returns-then-ne : goal.returns-then-ne
+returns-then-ne c = header-other c.args.line.now c.args.i c.in_ok-format.format c.in_ok-format.ensures c.in_ok-variables.variables c.in_ok-variables.ensures c.in_ok-clauses.clauses c.in_ok-clauses.ensures c.if-clauses-line.false c.as_slice.result.now c.as_slice.ensures c.if-ne.ensures
+
+pub returns-in_err-v : goal.returns-in_err-v
+returns-in_err-v c = rw c.from_residual-in_err-v.ensures (header-no-v c.args.line.now c.args.i c.in_ok-format.format c.in_ok-format.ensures c.in_ok-variables.variables c.in_ok-variables.ensures c.in_ok-clauses.clauses c.in_ok-clauses.ensures c.if-clauses-line.false c.as_slice.result.now c.as_slice.ensures c.if-ne.ensures c.in_err-v.ensures.0)
+
+pub returns-in_err-c : goal.returns-in_err-c
+returns-in_err-c c = rw c.from_residual-in_err-c.ensures (header-no-c c.args.line.now c.args.i c.in_ok-format.format c.in_ok-format.ensures c.in_ok-variables.variables c.in_ok-variables.ensures c.in_ok-clauses.clauses c.in_ok-clauses.ensures c.if-clauses-line.false c.as_slice.result.now c.as_slice.ensures c.if-ne.ensures c.in_ok-v.v c.in_ok-v.ensures.0 c.in_err-c.ensures.0)
 
 pub returns : goal.returns
-returns c = header_is c.args.line.now c.args.i (omega arith) c.next_token-t.result c.next_token-t.ensures (omega arith) c.next_token-t2.result c.next_token-t2.ensures (omega arith) c.next_token-t3.result c.next_token-t3.ensures c.if-e3-line.false c.is_cnf-cnf.result c.number-v.result c.number-c.result c.header_shape.result c.is_cnf-cnf.ensures c.number-v.ensures.0 c.number-c.ensures.0 c.header_shape.ensures
+returns c = header_is c.args.line.now c.args.i c.in_ok-format.format c.in_ok-format.ensures c.in_ok-variables.variables c.in_ok-variables.ensures c.in_ok-clauses.clauses c.in_ok-clauses.ensures c.if-clauses-line.false c.as_slice.result.now c.as_slice.ensures c.if-ne.ensures c.in_ok-v.v c.in_ok-v.ensures.0 c.in_ok-c.c c.in_ok-c.ensures.0

@@ -1,47 +1,48 @@
 -- `formula_lines::clauses::write_clauses` meets its contract.
-use Prim.Native.Nat.{◌-◌, ◌≤◌}
+use mathlib.Core.Path.{refl, ◌∙◌}
 use native.Mathlib.Omega.{arith}
-use borrow.Author.Rules.{rules}
-use lib.ListN.{length, drop}
-use Rattle.formula_lines.specs.Working.{Rises}
-use Rattle.formula_lines.proofs.Laws.Clauses.{clause_texts, end-rises, end-between, clauses-fit, clauses-next, clauses-done}
-use Rattle.words.proofs.Laws.Laid.{Writing, writing_start, writing-same}
+use Rattle.formula_lines.proofs.Laws.Clauses.{end-rises, end-between, clauses-fit, clauses-next, clauses-done}
+use Rattle.words.proofs.Laws.Laid.{writing_start}
 use Rattle.formula_lines.proofs.clauses.write_clauses.Goals as goal
 
-pub loop-i-init : goal.loop-i-init
-loop-i-init c = (search rules, c.requires.1, writing_start _ _ _)
+pub loop-end-init : goal.loop-end-init
+loop-end-init c = record { rises = c.requires.1; loan = refl; writing = writing_start _ _ _ }
 
 pub overflow_cast-end : goal.overflow_cast-end
-overflow_cast-end c = omega (arith, c.type_inv.ends c.loop-i.i)
+overflow_cast-end c = omega (arith, c.type_inv.ends c.loop-end.end-index)
 
 pub offset_bounds-literals-start : goal.offset_bounds-literals-start
 offset_bounds-literals-start c =
-    let r = end-between c.args.literals.now _ _ _ c.loop-i-test.true c.loop-i.invariant.1 in
+    let r = end-between c.args.literals.now _ _ _ c.loop-end-test.true c.loop-end.invariant.rises in
     omega (arith, r.0, r.1)
 
 pub slice_bounds-write_clause-count : goal.slice_bounds-write_clause-count
 slice_bounds-write_clause-count c =
-    let r = end-between c.args.literals.now _ _ _ c.loop-i-test.true c.loop-i.invariant.1 in
+    let r = end-between c.args.literals.now _ _ _ c.loop-end-test.true c.loop-end.invariant.rises in
     omega (arith, r.0, r.1)
 
 pub slice_bounds-write_clause-start : goal.slice_bounds-write_clause-start
 slice_bounds-write_clause-start c =
-    let r = end-between c.args.literals.now _ _ _ c.loop-i-test.true c.loop-i.invariant.1 in
+    let r = end-between c.args.literals.now _ _ _ c.loop-end-test.true c.loop-end.invariant.rises in
     omega (arith, r.0, r.1)
 
 pub slice_bounds-write_clause-end : goal.slice_bounds-write_clause-end
 slice_bounds-write_clause-end c =
-    let r = end-between c.args.literals.now _ _ _ c.loop-i-test.true c.loop-i.invariant.1 in
+    let r = end-between c.args.literals.now _ _ _ c.loop-end-test.true c.loop-end.invariant.rises in
     omega (arith, r.0, r.1)
 
-pub write_clause-place-requires : goal.write_clause-place-requires
-write_clause-place-requires c =
-    clauses-fit _ _ _ _ c.loop-i.invariant.2 c.loop-i-test.true c.requires.0
+pub write_clause-requires : goal.write_clause-requires
+write_clause-requires c =
+    clauses-fit _ _ _ _ c.loop-end.invariant.writing c.loop-end-test.true c.requires.0
 
-pub loop-i-preserved : goal.loop-i-preserved
-loop-i-preserved c =
-    let inside = c.loop-i-test.true in
-    (omega arith, (end-rises c.args.literals.now _ _ _ inside c.loop-i.invariant.1).1, clauses-next _ _ _ _ c.loop-i.invariant.2 inside c.write_clause-place.ensures)
+pub loop-end-preserved : goal.loop-end-preserved
+loop-end-preserved c =
+    let inside = c.loop-end-test.true in
+    record {
+      rises = (end-rises c.args.literals.now _ _ _ inside c.loop-end.invariant.rises).1;
+      loan = c.write_clause.ensures.loan ∙ c.loop-end.invariant.loan;
+      writing = clauses-next _ _ _ _ c.loop-end.invariant.writing inside c.write_clause.ensures.wrote;
+    }
 
-pub returns : goal.returns
-returns c = clauses-done _ _ _ _ c.loop-i.invariant.2 c.loop-i-test.false
+pub returns-clause-wrote : goal.returns-clause-wrote
+returns-clause-wrote c = clauses-done _ _ _ _ c.loop-end.invariant.writing c.loop-end-test.false

@@ -1,6 +1,5 @@
 -- `formula_lines::prefix::is_in` meets its contract.
 use mathlib.Core.Path.{◌∙◌, ap}
-use borrow.Author.Rules.{rules}
 use Rattle.dqbf.specs.Set.{inside}
 use Rattle.sets.specs.Words.{as_set}
 use Rattle.formula_lines.specs.Working.{is_in}

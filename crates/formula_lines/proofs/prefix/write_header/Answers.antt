@@ -1,6 +1,5 @@
 -- `formula_lines::prefix::write_header` meets its contract.
 use mathlib.Core.List.{[], ◌∷◌, ◌++◌}
-use borrow.Author.Rules.{rules}
 use Rattle.dqbf.specs.Line.{digits_of}
 use Rattle.dqbf.specs.Text.{line_feed}
 use Rattle.dqbf.specs.Bytes.{bytes}
@@ -9,42 +8,42 @@ use Rattle.words.proofs.Laws.Words.{with_space}
 use Rattle.words.proofs.Laws.Laid.{fits-first, fits-second, wrote-both}
 use Rattle.formula_lines.proofs.prefix.write_header.Goals as goal
 
-pub write_word-named-requires : goal.write_word-named-requires
+pub word-requires : goal.word-requires
 unfolding bytes
-write_word-named-requires c =
+word-requires c =
     let a = c.args in
     let rest = with_space (digits_of a.variables) ++ (digits_of a.clauses ++ (line_feed ∷ [])) in
     fits-first (bytes "p cnf ") rest (rw (header-text a.variables a.clauses) at c.requires)
 
-pub write_spaced-behind-requires : goal.write_spaced-behind-requires
+pub spaced-requires : goal.spaced-requires
 unfolding bytes
-write_spaced-behind-requires c =
+spaced-requires c =
     let a = c.args in
     let first = with_space (digits_of a.variables) in
     let rest = digits_of a.clauses ++ (line_feed ∷ []) in
-    fits-first first rest (fits-second (bytes "p cnf ") (first ++ rest) c.write_word-named.ensures (rw (header-text a.variables a.clauses) at c.requires))
+    fits-first first rest (fits-second (bytes "p cnf ") (first ++ rest) c.word.ensures.wrote (rw (header-text a.variables a.clauses) at c.requires))
 
-pub write_number-last-requires : goal.write_number-last-requires
+pub number-requires : goal.number-requires
 unfolding bytes
-write_number-last-requires c =
+number-requires c =
     let a = c.args in
     let first = with_space (digits_of a.variables) in
     let rest = digits_of a.clauses ++ (line_feed ∷ []) in
-    let fits = fits-second (bytes "p cnf ") (first ++ rest) c.write_word-named.ensures (rw (header-text a.variables a.clauses) at c.requires) in
-    fits-first (digits_of a.clauses) (line_feed ∷ []) (fits-second first rest c.write_spaced-behind.ensures fits)
+    let fits = fits-second (bytes "p cnf ") (first ++ rest) c.word.ensures.wrote (rw (header-text a.variables a.clauses) at c.requires) in
+    fits-first (digits_of a.clauses) (line_feed ∷ []) (fits-second first rest c.spaced.ensures.wrote fits)
 
-pub write_byte-requires : goal.write_byte-requires
+pub byte-requires : goal.byte-requires
 unfolding bytes
-write_byte-requires c =
+byte-requires c =
     let a = c.args in
     let first = with_space (digits_of a.variables) in
     let rest = digits_of a.clauses ++ (line_feed ∷ []) in
-    let fits = fits-second (bytes "p cnf ") (first ++ rest) c.write_word-named.ensures (rw (header-text a.variables a.clauses) at c.requires) in
-    fits-second (digits_of a.clauses) (line_feed ∷ []) c.write_number-last.ensures (fits-second first rest c.write_spaced-behind.ensures fits)
+    let fits = fits-second (bytes "p cnf ") (first ++ rest) c.word.ensures.wrote (rw (header-text a.variables a.clauses) at c.requires) in
+    fits-second (digits_of a.clauses) (line_feed ∷ []) c.number.ensures.wrote (fits-second first rest c.spaced.ensures.wrote fits)
 
-pub returns : goal.returns
+pub returns-clause-wrote : goal.returns-clause-wrote
 unfolding bytes
-returns c =
+returns-clause-wrote c =
     let a = c.args in
     rw (header-text a.variables a.clauses)
-    (wrote-both c.write_word-named.ensures (wrote-both c.write_spaced-behind.ensures (wrote-both c.write_number-last.ensures c.write_byte.ensures)))
+    (wrote-both c.word.ensures.wrote (wrote-both c.spaced.ensures.wrote (wrote-both c.number.ensures.wrote c.byte.ensures.wrote)))

@@ -17,8 +17,8 @@ digit_at-next-requires c = reached-below c.args.n c.args.power c.requires.0 c.re
 pub overflow_add-out : goal.overflow_add-out
 overflow_add-out c = omega (arith, c.digit_at-next.ensures.2)
 
-pub bounds-out-at : goal.bounds-out-at
-bounds-out-at c =
+pub bounds-out-begun : goal.bounds-out-begun
+bounds-out-begun c =
     omega (arith, reached-room c.args.n c.args.power c.requires.0 c.requires.2, c.requires.1)
 
 pub overflow_add-result : goal.overflow_add-result

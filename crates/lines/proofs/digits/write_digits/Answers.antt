@@ -9,8 +9,8 @@ pub write_three-high-requires : goal.write_three-high-requires
 write_three-high-requires c =
     (omega arith, refl, refl, c.requires, reached-start c.args.n 10000000000 (omega (arith, c.ranges.n.fits)))
 
-pub bounds-out-at : goal.bounds-out-at
-bounds-out-at c =
+pub bounds-out-low : goal.bounds-out-low
+bounds-out-low c =
     let room = reached-room c.args.n 1 (omega arith) c.write_three-low.ensures.0 in
     omega (arith, room, c.write_three-low.auto.out, c.write_three-middle.auto.out, c.write_three-high.auto.out, c.requires)
 

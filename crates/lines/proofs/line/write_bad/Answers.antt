@@ -7,13 +7,13 @@ use Rattle.lines.proofs.line.write_bad.Goals as goal
 pub write_word_numbers-requires : goal.write_word_numbers-requires
 write_word_numbers-requires c = room-two c.requires (search rules) _ _ (search rules) (search rules)
 
-pub write_word_numbers-requires-in-Naming : goal.write_word_numbers-requires-in-Naming
-write_word_numbers-requires-in-Naming c = room-three c.requires (search rules) _ _ _ (search rules) (search rules) (search rules)
+pub write_word_numbers-requires-in-Some : goal.write_word_numbers-requires-in-Some
+write_word_numbers-requires-in-Some c = room-three c.requires (search rules) _ _ _ (search rules) (search rules) (search rules)
 
-pub returns-in-Plain : goal.returns-in-Plain
+pub returns-in-None : goal.returns-in-None
 unfolding bytes
-returns-in-Plain c = let w = c.write_word_numbers in let g = c.in-Plain in wrote-plain _ _ g.number g.is w.ensures
+returns-in-None c = wrote-plain _ _ _ c.in-None.is c.write_word_numbers.ensures
 
-pub returns-in-Naming : goal.returns-in-Naming
+pub returns-in-Some : goal.returns-in-Some
 unfolding bytes
-returns-in-Naming c = let w = c.write_word_numbers-in-Naming in let g = c.in-Naming in wrote-naming _ _ g.number g.variable g.is w.ensures
+returns-in-Some c = wrote-naming _ _ _ c.in-Some.named c.in-Some.is c.write_word_numbers-in-Some.ensures

@@ -42,7 +42,7 @@ returns-in-Bad c =
     let w = c.write_bad in
     let g = c.in-Bad in
     let room = c.if-out-lt-LINE_SIZE.false in
-    wrote (line_of c.args.verdict) c.args.out.now w.new.out (line_of (Bad g.step g.why)) w.result room (ap line_of g.is) w.ensures.0 w.ensures.1
+    wrote (line_of c.args.verdict) c.args.out.now w.new.out (line_of (Bad g.step g.number g.variable)) w.result room (ap line_of g.is) w.ensures.0 w.ensures.1
 
 pub returns-in-Formula : goal.returns-in-Formula
 unfolding line_of verdict_line formula_line bytes

@@ -15,18 +15,18 @@ slice_bounds-write_digits-count c = omega (arith, c.requires, length-set c.args.
 pub slice_bounds-write_digits-start : goal.slice_bounds-write_digits-start
 slice_bounds-write_digits-start c = omega (arith, c.requires, length-set c.args.out.now 0 32)
 
-pub write_digits-count-requires : goal.write_digits-count-requires
-write_digits-count-requires c =
+pub write_digits-requires : goal.write_digits-requires
+write_digits-requires c =
     let out = set c.args.out.now 0 32 in
     let s = length-set c.args.out.now 0 32 in
     simp (length-take, length-drop) (omega (arith, s, c.requires, digits-ten c.args.n c.ranges.n.fits))
 
 pub overflow_add-result : goal.overflow_add-result
-overflow_add-result c = let w = c.write_digits-count in omega (arith, w.ensures.0, digits-ten c.args.n c.ranges.n.fits)
+overflow_add-result c = let w = c.write_digits in omega (arith, w.ensures.0, digits-ten c.args.n c.ranges.n.fits)
 
 pub returns : goal.returns
 returns c =
-    let w = c.write_digits-count in
+    let w = c.write_digits in
     let out = c.args.out.now in
     let one = front-set out out [] 0 32 refl (omega (arith, c.requires)) refl in (
       omega (arith, w.ensures.0),

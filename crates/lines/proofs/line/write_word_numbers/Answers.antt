@@ -7,7 +7,7 @@ use Rattle.lines.proofs.line.write_word_numbers.Goals as goal
 
 pub returns : goal.returns
 returns c =
-    let v = c.write_numbers-rest in
+    let v = c.write_numbers in
     let w = c.write_word-at in
     let X = c.args.word.now in
     let Y = spaced c.args.numbers.now in (

@@ -5,6 +5,6 @@ pub returns-then-signed : goal.returns-then-signed
 unfolding ranked
 returns-then-signed c = rw c.if-signed.true
 
-pub returns : goal.returns
+pub returns-else-signed : goal.returns-else-signed
 unfolding ranked
-returns c = rw c.if-signed.false
+returns-else-signed c = rw c.if-signed.false

@@ -1,39 +1,43 @@
-use mathlib.Core.Path.{◌≡◌, refl, sym, ap, ◌∙◌}
+use mathlib.Core.Path.{◌≡◌, sym, ap, ◌∙◌}
 use Prim.Native.Nat.{◌-◌}
 use native.Mathlib.Omega.{arith}
 use lib.ListN.{length, get_or}
 use Rattle.dqbf.specs.Limits.{digit_limit}
-use Rattle.numerals.specs.Working.{plus_one}
-use Rattle.numerals.proofs.Laws.Numbers.{digits_low, digits-high, digits_more, digits-end, ten-more, ten-le, ten-fits}
+use Rattle.numerals.specs.Working.{answered}
+use Rattle.numerals.proofs.Laws.Bytewise.{digit-is, digit_low, digit-high}
+use Rattle.numerals.proofs.Laws.Numbers.{digits-other, digits_more, digits-end, ten-more, ten-le, ten-fits}
 use Rattle.numerals.proofs.number.digits_value.Goals as goal
 
-pub loop-i-init : goal.loop-i-init
-loop-i-init c = (omega arith, omega arith, refl)
+pub returns-then-not-is_ascii_digit : goal.returns-then-not-is_ascii_digit
+unfolding answered
+returns-then-not-is_ascii_digit c =
+    let l = c.loop-b in
+    (sym (ap answered (l.invariant.1 ∙ digits-other l.value c.args.token.now l.b-index c.loop-b-test.true (sym c.if-not-is_ascii_digit.ensures.value))), tt)
 
-pub returns-then-b-lt48 : goal.returns-then-b-lt48
-unfolding plus_one
-returns-then-b-lt48 c = (sym (ap plus_one (c.loop-i.invariant.2 ∙ digits_low c.loop-i.v c.args.token.now c.loop-i.i c.loop-i-test.true c.if-b-lt48.true)), omega arith)
+pub overflow_sub-b : goal.overflow_sub-b
+overflow_sub-b c = digit_low _ (digit-is _ (sym c.if-not-is_ascii_digit.ensures.value))
 
-pub returns-then-b-gt57 : goal.returns-then-b-gt57
-unfolding plus_one
-returns-then-b-gt57 c = (sym (ap plus_one (c.loop-i.invariant.2 ∙ digits-high c.loop-i.v c.args.token.now c.loop-i.i c.loop-i-test.true (omega arith) c.if-b-gt57.true)), omega arith)
+pub overflow_mul-value : goal.overflow_mul-value
+overflow_mul-value c = omega (arith, ten-fits c.loop-b.value c.loop-b.b-index (length c.args.token.now) c.loop-b.invariant.0 c.loop-b-test.true c.requires)
 
-pub overflow_mul-v : goal.overflow_mul-v
-overflow_mul-v c = omega (arith, ten-fits c.loop-i.v c.loop-i.i (length c.args.token.now) c.loop-i.invariant.1 c.loop-i-test.true c.requires)
+pub overflow_add-value : goal.overflow_add-value
+overflow_add-value c =
+    let l = c.loop-b in
+    let high = digit-high (get_or c.args.token.now l.b-index 0) (digit-is _ (sym c.if-not-is_ascii_digit.ensures.value)) in
+    let d = c.from.ensures in
+    omega (arith, ten-fits l.value l.b-index (length c.args.token.now) l.invariant.0 c.loop-b-test.true c.requires)
 
-pub overflow_add-v : goal.overflow_add-v
-overflow_add-v c = omega (arith, ten-fits c.loop-i.v c.loop-i.i (length c.args.token.now) c.loop-i.invariant.1 c.loop-i-test.true c.requires)
-
-pub loop-i-preserved : goal.loop-i-preserved
-loop-i-preserved c =
+pub loop-b-preserved : goal.loop-b-preserved
+loop-b-preserved c =
     let w = c.args.token.now in
-    let v = c.loop-i in
-    let e : c.wide.result ≡ get_or w v.i 0 - 48 = c.wide.ensures in
-    (omega arith, ten-more v.i v.v c.wide.result v.invariant.1 (omega arith), v.invariant.2 ∙ digits_more v.v w v.i c.loop-i-test.true c.if-b-lt48.false c.if-b-gt57.false ∙ rw e)
-
-pub overflow_add-result : goal.overflow_add-result
-overflow_add-result c = omega (arith, ten-le c.loop-i.i digit_limit (omega arith))
+    let l = c.loop-b in
+    let digit = sym c.if-not-is_ascii_digit.ensures.value in
+    let high = digit-high (get_or w l.b-index 0) (digit-is _ digit) in
+    let e : c.from.result ≡ get_or w l.b-index 0 - 48 = c.from.ensures in
+    (ten-more l.b-index l.value c.from.result l.invariant.0 (omega arith), l.invariant.1 ∙ digits_more l.value w l.b-index c.loop-b-test.true digit ∙ rw e)
 
 pub returns : goal.returns
-unfolding plus_one
-returns c = (sym (ap plus_one (c.loop-i.invariant.2 ∙ digits-end c.loop-i.v c.args.token.now c.loop-i.i (omega arith))), omega (arith, ten-le c.loop-i.i digit_limit (omega arith)))
+unfolding answered
+returns c =
+    let l = c.loop-b in
+    (sym (ap answered (l.invariant.1 ∙ digits-end l.value c.args.token.now l.b-index c.loop-b-test.false)), omega (arith, ten-le l.b-index digit_limit (omega arith)))

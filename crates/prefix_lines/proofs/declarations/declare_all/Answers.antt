@@ -1,24 +1,40 @@
-use Rattle.sets.proofs.Laws.Tables.{sets-kept}
+use Rattle.std.proofs.lemmas.Result.{err_from_is_err_and}
 use mathlib.Core.Path.{refl, ◌∙◌}
 use native.Mathlib.Omega.{arith}
+use Rattle.tables.proofs.Laws.Lent.{same-loans, loans-then}
+use Rattle.prefix_lines.proofs.Laws.Reading.{same-room, room-then}
 use Rattle.prefix_lines.proofs.Laws.Declaring.{all_start, all-next, all-refused, all_done}
 use Rattle.prefix_lines.proofs.declarations.declare_all.Goals as goal
 
-pub loop-i-init : goal.loop-i-init
-loop-i-init c =
-    (omega arith, refl, refl, refl, omega arith, c.requires.4, λ t r l e h inside. all_start c.args.universal c.args.variables.now t r inside h)
+pub loop-variable-init : goal.loop-variable-init
+loop-variable-init c = record {
+  loans = same-loans _;
+  rest = (refl, refl);
+  room = same-room _;
+  bound = refl;
+  more = omega arith;
+  few = c.requires.4;
+  read = λ t r p h inside. all_start c.args.universal c.args.variables.now t r inside h;
+}
 
-pub declare_one-next-requires : goal.declare_one-next-requires
-declare_one-next-requires c =
-    (c.requires.0 c.loop-i.i c.loop-i-test.true, sets-kept c.loop-i.sets c.args.sets.now c.loop-i.invariant.1 (omega (arith, c.requires.1)), omega arith, λ u. omega (arith, c.requires.3 u), c.loop-i.invariant.5)
+pub returns-in_err-declare_one-clause-read : goal.returns-in_err-declare_one-clause-read
+returns-in_err-declare_one-clause-read c =
+    let p = err_from_is_err_and c.from_residual.result c.from_residual.ensures.1 in
+    λ t r q h inside. rw (p.1, p.2) (all-refused _ _ t r c.loop-variable.variable-index c.loop-variable-test.true (c.loop-variable.invariant.read t r q h inside) (λ r'. c.declare_one.ensures.read t r' q) (rw c.in_err-declare_one.was))
 
-pub returns-then-next-ne0 : goal.returns-then-next-ne0
-returns-then-next-ne0 c =
-    λ t r l e h inside. all-refused _ _ t r c.loop-i.i c.loop-i-test.true (c.loop-i.invariant.6 t r l e h inside) (λ q. c.declare_one-next.ensures.1 t q l e) c.if-next-ne0.true
+pub loop-variable-preserved : goal.loop-variable-preserved
+loop-variable-preserved c =
+    let i = c.loop-variable.invariant in
+    let d = c.declare_one.ensures in
+    record {
+      loans = loans-then i.loans d.loans;
+      rest = (d.rest.0 ∙ i.rest.0, d.rest.1 ∙ i.rest.1);
+      room = room-then i.room d.room;
+      bound = d.counts.bound ∙ i.bound;
+      more = omega (arith, d.counts.universals, i.more);
+      few = d.counts.few;
+      read = λ t r p h inside. all-next _ _ t r c.loop-variable.variable-index c.loop-variable-test.true (i.read t r p h inside) (λ r'. d.read t r' p) (rw c.in_ok-declare_one.was);
+    }
 
-pub loop-i-preserved : goal.loop-i-preserved
-loop-i-preserved c =
-    (omega arith, c.declare_one-next.auto.sets ∙ c.loop-i.invariant.1, c.declare_one-next.auto.kinds ∙ c.loop-i.invariant.2, c.declare_one-next.ensures.0.bound ∙ c.loop-i.invariant.3, omega (arith, c.declare_one-next.ensures.0.universals), c.declare_one-next.ensures.0.few, λ t r l e h inside. all-next _ _ t r c.loop-i.i c.loop-i-test.true (c.loop-i.invariant.6 t r l e h inside) (λ q. c.declare_one-next.ensures.1 t q l e) c.if-next-ne0.false)
-
-pub returns : goal.returns
-returns c = λ t r l e h inside. all_done _ _ t r c.loop-i.i c.loop-i-test.false (c.loop-i.invariant.6 t r l e h inside)
+pub returns-clause-read : goal.returns-clause-read
+returns-clause-read c = λ t r p h inside. all_done _ _ t r c.loop-variable.variable-index (omega (arith, c.loop-variable-test.false)) (c.loop-variable.invariant.read t r p h inside)

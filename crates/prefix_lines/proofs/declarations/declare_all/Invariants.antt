@@ -1,17 +1,22 @@
 use mathlib.Core.Path.{◌≡◌}
-use mathlib.Core.List.{List}
-use Prim.Native.Nat.{ℕ, ◌+◌, ◌-◌, ◌≤◌}
-use lib.IntN.{ℤ}
-use lib.ListN.{length}
+use Prim.Native.Nat.{◌+◌, ◌≤◌}
 use Rattle.dqbf.specs.Limits.{universal_limit}
 use Rattle.dqbf.specs.Reading.{Reader, prefix_lines}
-use Rattle.tables.specs.Tables.{Tables, tables_of}
-use Rattle.prefix_lines.specs.Lines.{ReadSoFar}
+use Rattle.tables.specs.Lent.{tables_held, SameLoans}
+use Rattle.tables.specs.Tables.{Tables}
+use Rattle.prefix_lines.specs.Lines.{carried, ReadSoFar, SameRoom}
+use Rattle.prefix_lines.specs.declared.progress.Progress.{Progress}
 use Rattle.prefix_lines.proofs.Laws.Declaring.{Declared}
 use Rattle.prefix_lines.proofs.declarations.declare_all.Given as goal
 
-abbrev pub invariant-loop-i : goal.invariant-loop-i
-invariant-loop-i l = (l.i ≤ length l.variables) × (length l.sets ≡ length l.initial.sets) × (length l.kinds ≡ length l.initial.kinds) × (l.progress.state.bound.0 ≡ l.initial.progress.state.bound.0) × (l.progress.state.universals ≤ l.initial.progress.state.universals + l.i) × (l.progress.state.universals ≤ universal_limit) × ((t : Tables) (r : Reader) (l₁ : List ℤ) (e : List ℕ) → ReadSoFar t r l.initial.progress (tables_of l₁ e l.initial.sets l.initial.kinds) → r.phase ≡ prefix_lines → Declared l.universal l.variables t r l.i l.progress (tables_of l₁ e l.sets l.kinds))
-
-abbrev pub decreases-loop-i : goal.decreases-loop-i
-decreases-loop-i l = length l.variables - l.i
+abbrev pub invariant-loop-variable : goal.invariant-loop-variable
+invariant-loop-variable l = record {
+  loans : SameLoans l.fn.tables l.tables;
+  rest : (l.tables.literals.now ≡ l.fn.tables.literals.now) × (l.tables.ends.now ≡ l.fn.tables.ends.now);
+  room : SameRoom (tables_held l.fn.tables) (tables_held l.tables);
+  bound : l.tables.state.bound.0 ≡ l.fn.tables.state.bound.0;
+  more : l.tables.state.universals ≤ l.fn.tables.state.universals + l.variable-index;
+  few : l.tables.state.universals ≤ universal_limit;
+  read : (t : Tables) (r : Reader) (p : Progress) → ReadSoFar t r (carried p l.fn.tables.state) (tables_held l.fn.tables) → r.phase ≡ prefix_lines
+      → Declared l.universal l.variables t r l.variable-index (carried p l.tables.state) (tables_held l.tables);
+}

@@ -1,30 +1,24 @@
-use Rattle.std.proofs.lemmas.Bool.{not_from_false, not_from_true}
+use Rattle.std.proofs.lemmas.Result.{err_from_is_err_and}
+use mathlib.Core.Path.{refl}
 use native.Mathlib.Omega.{arith}
-use Rattle.prefix_lines.proofs.Laws.Declaring.{one-refused, one-universal, one-existential, one_same, one-added}
+use Rattle.prefix_lines.specs.Lines.{universal_added}
+use Rattle.prefix_lines.proofs.Laws.Declaring.{one-refused, one-universal, existential-read, passed-told, refused-told}
 use Rattle.prefix_lines.proofs.declarations.declare_one.Goals as goal
 
-pub single-set-requires : goal.single-set-requires
-single-set-requires c = c.requires.3 c.if-universal.true
+pub returns-then-not-universal-clause-read : goal.returns-then-not-universal-clause-read
+returns-then-not-universal-clause-read c =
+    let d = c.declare.ensures in
+    λ t r p h inside. rw (c.if-not-universal.true, d.rest.0, d.rest.1, d.rest.2) (existential-read h inside c.args.variable (omega arith) c.lowest-earlier.ensures d.spare d.declared)
 
-pub returns-then-not-declare : goal.returns-then-not-declare
-returns-then-not-declare c =
-    rw c.refused.ensures (one_same c.args.progress 12 c.requires.4, λ t r l e h inside. one-refused h inside c.args.variable (omega arith) c.declare.ensures.0.told c.args.universal 1 _ (not_from_false _ c.if-not-declare.true) c.declare.ensures.0.sets-are c.declare.ensures.1 c.declare.ensures.0.kinds-are)
+pub returns-in_err-declare-clause-read : goal.returns-in_err-declare-clause-read
+returns-in_err-declare-clause-read c =
+    let p = err_from_is_err_and c.from_residual.result c.from_residual.ensures.1 in
+    let d = c.in_err-declare.ensures in
+    let told = refused-told _ d.declared.told in
+    λ t r q h inside. rw (p.1, p.2, told.1, d.rest.0, d.rest.1, d.rest.2) (one-refused h inside c.args.variable (omega arith) c.args.universal 1 _ told.0 d.declared.sets-are d.spare d.declared.kinds-are)
 
-pub add_universal-next-requires : goal.add_universal-next-requires
-add_universal-next-requires c =
-    c.requires.3 c.if-universal.true
-
-pub returns-then-universal : goal.returns-then-universal
-returns-then-universal c =
-    let few = c.requires.3 c.if-universal.true in let w = c.single-set.ensures in (one-added c.args.progress 0 few c.add_universal-next.ensures, λ t r l e h inside. rw c.if-universal.true (one-universal h inside c.args.variable (omega arith) c.declare.ensures.0.told (not_from_true _ c.if-not-declare.false) few w c.declare.ensures.0.sets-are c.declare.ensures.1 c.declare.ensures.0.kinds-are c.add_universal-next.ensures))
-
-pub lowest-earlier-requires : goal.lowest-earlier-requires
-lowest-earlier-requires c = c.requires.4
-
-pub returns-then-not-declare-2 : goal.returns-then-not-declare-2
-returns-then-not-declare-2 c =
-    rw c.refused-then-not-declare-2.ensures (one_same c.args.progress 12 c.requires.4, λ t r l e h inside. one-refused h inside c.args.variable (omega arith) c.declare-2.ensures.0.told c.args.universal 2 _ (not_from_false _ c.if-not-declare-2.true) c.declare-2.ensures.0.sets-are c.declare-2.ensures.1 c.declare-2.ensures.0.kinds-are)
-
-pub returns : goal.returns
-returns c =
-    (one_same c.args.progress 0 c.requires.4, λ t r l e h inside. rw c.if-universal.false (one-existential h inside c.args.variable (omega arith) c.declare-2.ensures.0.told (not_from_true _ c.if-not-declare-2.false) c.lowest-earlier.ensures c.declare-2.ensures.0.sets-are c.declare-2.ensures.1 c.declare-2.ensures.0.kinds-are))
+pub returns-clause-read : goal.returns-clause-read
+returns-clause-read c =
+    let d = c.in_ok-declare.ensures in
+    let few = c.requires.3 c.if-not-universal.false in
+    λ t r p h inside. rw (c.if-not-universal.false, d.rest.0, d.rest.1, d.rest.2) (one-universal h inside c.args.variable (omega arith) (passed-told _ d.declared.told) few c.single.ensures d.declared.sets-are d.spare d.declared.kinds-are (unfold universal_added in refl))

@@ -1,14 +1,16 @@
-use mathlib.Core.Bool.{false≢true}
+use mathlib.Core.Path.{sym}
+use borrow.Author.Rules.{rules}
+use denote.Enum.Bare.{differs_true, differs_false}
+use Rattle.prefix_lines.specs.contracts.progress.Phase.{the_type}
 use Rattle.prefix_lines.proofs.Laws.PrefixLines.{e-late, e-read}
 use Rattle.prefix_lines.proofs.declarations.existential_line.Goals as goal
 
-pub returns-then-progress-ne-PREFIX_LINES : goal.returns-then-progress-ne-PREFIX_LINES
-returns-then-progress-ne-PREFIX_LINES c = λ t r l e h. rw c.refused.ensures (e-late h c.if-progress-ne-PREFIX_LINES.true _)
+pub returns-then-ne-clause-read : goal.returns-then-ne-clause-read
+returns-then-ne-clause-read c =
+    let late = differs_true the_type _ _ (sym c.if-ne.ensures) in
+    λ t r h. e-late h late _
 
-pub declare_all-requires : goal.declare_all-requires
-declare_all-requires c =
-    (c.requires.0, c.requires.1, c.requires.2, λ u. absurd (false≢true u), c.requires.3)
-
-pub returns : goal.returns
-returns c =
-    λ t r l e h. e-read h c.if-progress-ne-PREFIX_LINES.false _ (c.declare_all.ensures t r l e h)
+pub returns-clause-read : goal.returns-clause-read
+returns-clause-read c =
+    let inside = differs_false the_type (search rules) _ _ (sym c.if-ne.ensures) in
+    λ t r h. e-read h inside _ (c.declare_all.ensures.read t r c.args.progress h)

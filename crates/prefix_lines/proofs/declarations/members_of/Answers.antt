@@ -1,16 +1,16 @@
-use mathlib.Core.Path.{◌≡◌}
 use native.Mathlib.Omega.{arith}
 use Rattle.sets.specs.Words.{as_set}
-use Rattle.prefix_lines.proofs.Laws.Rows.{universal-end, universal-more, union-end, union_more}
+use Rattle.prefix_lines.proofs.Laws.Rows.{members-start, members-stop, members-next, members-all}
 use Rattle.prefix_lines.proofs.declarations.members_of.Goals as goal
 
-pub loop-i-init : goal.loop-i-init
-loop-i-init c =
-    (omega arith, universal-end _ c.args.variables.now, unfold as_set in union-end _ c.args.variables.now)
+pub loop-variable-init : goal.loop-variable-init
+loop-variable-init c = unfold as_set in members-start _ c.args.kinds.now c.args.variables.now
 
-pub loop-i-preserved : goal.loop-i-preserved
-loop-i-preserved c =
-    (omega arith, universal-more _ c.args.variables.now c.loop-i.i c.loop-i-test.true c.loop-i.invariant.0 c.loop-i.invariant.1 c.kind_of-kind.ensures, union_more _ c.args.variables.now c.loop-i.i c.loop-i-test.true c.loop-i.invariant.0 c.loop-i.invariant.2 c.set_of-set.ensures c.union-united.ensures)
+pub returns-then-kind_of-ne-UNIVERSAL : goal.returns-then-kind_of-ne-UNIVERSAL
+returns-then-kind_of-ne-UNIVERSAL c = members-stop _ _ _ _ c.loop-variable-test.true c.loop-variable.invariant c.kind_of.ensures c.if-kind_of-ne-UNIVERSAL.true
+
+pub loop-variable-preserved : goal.loop-variable-preserved
+loop-variable-preserved c = members-next _ _ _ _ c.loop-variable-test.true c.loop-variable.invariant c.kind_of.ensures c.if-kind_of-ne-UNIVERSAL.false c.set_of-set.ensures c.union-united.ensures
 
 pub returns : goal.returns
-returns c = let z : c.loop-i.i ≡ 0 = omega arith in (rw z at c.loop-i.invariant.1, rw z at c.loop-i.invariant.2)
+returns c = members-all _ _ _ c.loop-variable.variable-index (omega (arith, c.loop-variable-test.false)) c.loop-variable.invariant

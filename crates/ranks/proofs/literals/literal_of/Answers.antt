@@ -7,5 +7,5 @@ returns-then-rank-eq0 c = literal-plain c.args.rank c.requires c.if-rank-eq0.tru
 pub overflow_sub-result : goal.overflow_sub-result
 overflow_sub-result c = literal-minus-fits c.args.rank c.requires
 
-pub returns : goal.returns
-returns c = literal-minus c.args.rank c.requires c.if-rank-eq0.false
+pub returns-else-rank-eq0 : goal.returns-else-rank-eq0
+returns-else-rank-eq0 c = literal-minus c.args.rank c.requires c.if-rank-eq0.false

@@ -1,76 +1,56 @@
--- `run_records` meets its contract.
-use mathlib.Core.Path.{refl, ◌∙◌}
+-- `run::run_records` meets its contract.
 use native.Mathlib.Omega.{arith}
-use borrow.Author.Rules.{rules}
-use Rattle.additions.specs.Adding.{refused_by}
-use Rattle.steps.proofs.Laws.Decoded.{bytes-malformed, bytes-examined}
+use mathlib.Core.Path.{◌≡◌, sym, ◌∙◌, ap}
+use Prim.Native.Nat.{ℕ, ◌+◌, min}
+use lib.ListN.{length}
+use Rattle.dqbf.specs.Run.{bad}
+use Rattle.std.proofs.lemmas.List.{length-append}
+use Rattle.std.specs.Slice.Iter.{chunks_rest, chunks_size}
+use Rattle.std.specs.Iterator.Adapters.{enumerate_source, enumerate_count}
+use Rattle.tables.proofs.Laws.Lent.{same-loans, loans-then}
 use Rattle.steps.proofs.Laws.Runs.{running-start, running-on, running-refused, run-ended}
 use Rattle.steps.proofs.run.run_records.Goals as goal
 
-pub loop-at-init : goal.loop-at-init
-loop-at-init c = (search rules, search rules, refl, refl, refl, refl, running-start _ _ _ c.requires.0)
+pub loop-i-init : goal.loop-i-init
+loop-i-init c =
+    let first = c.into_iter-i-iterator.ensures.into_iter_gives in
+    let source = ap enumerate_source first ∙ c.enumerate-i-items.ensures.source in
+    let count = ap enumerate_count first ∙ c.enumerate-i-items.ensures.count in
+    let rest = ap chunks_rest source ∙ c.chunks.ensures.rest in
+    record {
+      counted = omega (arith, count, ap length rest);
+      size = ap chunks_size source ∙ c.chunks.ensures.size;
+      loans = same-loans _;
+      running = rw (count, rest) (running-start _ _ _ c.requires.0);
+    }
 
-pub record_end-end-requires : goal.record_end-end-requires
-record_end-end-requires c = omega (arith, c.requires.1, c.loop-at.invariant.0)
+pub examine_record-requires : goal.examine_record-requires
+examine_record-requires c = c.loop-i.invariant.running.holding
 
-pub slice_bounds-decode-count : goal.slice_bounds-decode-count
-slice_bounds-decode-count c = omega (arith, c.record_end-end.ensures, c.loop-at-test.true)
+pub returns-in-Err-clause-loans : goal.returns-in-Err-clause-loans
+returns-in-Err-clause-loans c = loans-then c.loop-i.invariant.loans c.examine_record.ensures.loans
 
-pub slice_bounds-decode-start : goal.slice_bounds-decode-start
-slice_bounds-decode-start c = omega (arith, c.record_end-end.ensures, c.loop-at-test.true)
+pub returns-in-Err-clause-after : goal.returns-in-Err-clause-after
+returns-in-Err-clause-after c =
+    let s = c.in-Some.ensures.steps in
+    let g = c.loop-i.invariant in
+    let size = s.0.1.1 ∙ ap (λ (n : ℕ). min n (length (chunks_rest (enumerate_source c.loop-i.i-iterator)))) g.size in
+    rw s.1 (running-refused _ _ _ _ _ _ _ _ _ g.running s.0.1.0 size s.0.1.2 c.examine_record.ensures.after _ (rw c.in-Err.is))
 
-pub slice_bounds-decode-end : goal.slice_bounds-decode-end
-slice_bounds-decode-end c = omega (arith, c.record_end-end.ensures, c.loop-at-test.true)
+pub loop-i-preserved : goal.loop-i-preserved
+loop-i-preserved c =
+    let s = c.in-Some.ensures.steps in
+    let g = c.loop-i.invariant in
+    let size = s.0.1.1 ∙ ap (λ (n : ℕ). min n (length (chunks_rest (enumerate_source c.loop-i.i-iterator)))) g.size in
+    record {
+      counted = omega (arith, g.counted, s.2, ap length s.0.1.0 ∙ length-append c.in-Some.record.now (chunks_rest (enumerate_source c.next.new.self)), size, s.0.1.2);
+      size = s.0.0 ∙ g.size;
+      loans = loans-then g.loans c.examine_record.ensures.loans;
+      running = rw s.2 (running-on _ _ _ _ _ _ _ _ _ g.running s.0.1.0 size s.0.1.2 c.examine_record.ensures.after (rw c.in_default.is));
+    }
 
-pub overflow_add-count : goal.overflow_add-count
-overflow_add-count c =
-    omega (arith, c.requires.1, c.loop-at.invariant.0, c.loop-at.invariant.1)
+pub returns-clause-loans : goal.returns-clause-loans
+returns-clause-loans c = c.loop-i.invariant.loans
 
-pub returns-in_default : goal.returns-in_default
-returns-in_default c =
-    let test = c.loop-at-test.true in
-    let end = c.record_end-end.ensures in
-    let holds = c.loop-at.invariant.6 in
-    let malformed = bytes-malformed _ _ holds.holding _ c.decode-decoded.ensures c.in_default.is refl in
-    running-refused _ _ _ _ _ _ _ _ holds test end (refused_by _ 20) malformed _ refl c.stopped.ensures
-
-pub examine-stepped-requires : goal.examine-stepped-requires
-examine-stepped-requires c = c.loop-at.invariant.6.holding
-
-pub overflow_add-count-in-Refused : goal.overflow_add-count-in-Refused
-overflow_add-count-in-Refused c =
-    omega (arith, c.requires.1, c.loop-at.invariant.0, c.loop-at.invariant.1)
-
-pub returns-in-Refused : goal.returns-in-Refused
-returns-in-Refused c =
-    let test = c.loop-at-test.true in
-    let end = c.record_end-end.ensures in
-    let decoded = c.decode-decoded.ensures in
-    let done = c.examine-stepped in
-    let holds = c.loop-at.invariant.6 in
-    let examined = bytes-examined _ _ holds.holding _ decoded _ done.result c.in-Step.is done.ensures in
-    running-refused _ _ _ _ _ _ _ _ holds test end done.result examined _ c.in-Refused.is c.stopped_by.ensures
-
-pub overflow_add-count-in-loop-at : goal.overflow_add-count-in-loop-at
-overflow_add-count-in-loop-at c =
-    omega (arith, c.requires.1, c.loop-at.invariant.0, c.loop-at.invariant.1)
-
-pub loop-at-smaller : goal.loop-at-smaller
-loop-at-smaller c = omega (arith, c.record_end-end.ensures, c.loop-at-test.true)
-
-pub loop-at-preserved : goal.loop-at-preserved
-loop-at-preserved c =
-    let holds = c.loop-at.invariant.6 in
-    let result = c.examine-stepped.result in
-    let examined = bytes-examined _ _ holds.holding _ c.decode-decoded.ensures _ result c.in-Step.is c.examine-stepped.ensures in (
-      omega (arith, c.record_end-end.ensures, c.loop-at-test.true),
-      omega (arith, c.record_end-end.ensures, c.loop-at-test.true, c.loop-at.invariant.1),
-      c.examine-stepped.auto.literals ∙ c.loop-at.invariant.2,
-      c.examine-stepped.auto.ends ∙ c.loop-at.invariant.3,
-      c.examine-stepped.auto.sets ∙ c.loop-at.invariant.4,
-      c.examine-stepped.auto.kinds ∙ c.loop-at.invariant.5,
-      running-on _ _ _ _ _ _ _ _ holds c.loop-at-test.true c.record_end-end.ensures result examined c.in_default-answer.is,
-    )
-
-pub returns : goal.returns
-returns c = run-ended _ _ _ _ _ _ _ c.loop-at.invariant.6 c.loop-at-test.false c.verdict.result c.verdict.ensures.0 c.verdict.ensures.1
+pub returns-clause-after : goal.returns-clause-after
+returns-clause-after c = run-ended _ _ _ _ _ _ _ c.loop-i.invariant.running c.in-None.ensures.steps.0.1.0 c.outcome_of.ensures

@@ -1,14 +1,16 @@
 use mathlib.Core.Path.{◌≡◌}
-use Prim.Native.Nat.{◌≤◌, ◌-◌}
+use Prim.Native.Nat.{◌+◌, ◌≤◌}
 use lib.ListN.{length}
-use Rattle.tables.specs.Tables.{tables_of}
+use Rattle.std.specs.Slice.Iter.{chunks_rest, chunks_size}
+use Rattle.std.specs.Iterator.Adapters.{enumerate_source, enumerate_count}
+use Rattle.tables.specs.Lent.{tables_held, SameLoans}
 use Rattle.steps.proofs.Laws.Runs.{Running}
 use Rattle.steps.proofs.run.run_records.Given as goal
 
-abbrev pub invariant-loop-at : goal.invariant-loop-at
-invariant-loop-at l =
-    (l.at ≤ length l.bytes) × (l.count ≤ l.at) × (length l.literals ≡ length l.initial.literals) × (length l.ends ≡ length l.initial.ends) × (length l.sets ≡ length l.initial.sets) × (length l.kinds ≡ length l.initial.kinds)
-    × Running (tables_of l.initial.literals l.initial.ends l.initial.sets l.initial.kinds) l.initial.current l.bytes (tables_of l.literals l.ends l.sets l.kinds) l.current l.at l.count
-
-abbrev pub decreases-loop-at : goal.decreases-loop-at
-decreases-loop-at l = length l.bytes - l.at
+abbrev pub invariant-loop-i : goal.invariant-loop-i
+invariant-loop-i l = let left = chunks_rest (enumerate_source l.i-iterator) in record {
+  counted : enumerate_count l.i-iterator + length left ≤ length l.bytes;
+  size : chunks_size (enumerate_source l.i-iterator) ≡ 16;
+  loans : SameLoans l.initial.tables l.tables;
+  running : Running (tables_held l.initial.tables) l.initial.tables.state l.bytes (tables_held l.tables) l.tables.state left (enumerate_count l.i-iterator);
+}

@@ -4,34 +4,33 @@ use lib.IntN.{pos, nat_abs}
 use lib.ListN.{get_or}
 use Rattle.dqbf.proofs.Laws.Signed.{var-kept}
 use Rattle.tables.proofs.Laws.Turns.{clause-wide, clause-start, literals_end, literals-low, literals-none, literals-high, literals-pass}
-use borrow.Author.Rules.{rules}
 use Rattle.tables.proofs.formed.clause_fits.Goals as goal
 
 pub returns-then-clause-gt-WIDTH_LIMIT : goal.returns-then-clause-gt-WIDTH_LIMIT
 returns-then-clause-gt-WIDTH_LIMIT c = sym (clause-wide _ _ _ c.if-clause-gt-WIDTH_LIMIT.true)
 
-pub loop-i-init : goal.loop-i-init
-loop-i-init c = (search rules, clause-start _ _ _ c.if-clause-gt-WIDTH_LIMIT.false)
+pub loop-literal-init : goal.loop-literal-init
+loop-literal-init c = clause-start _ _ _ c.if-clause-gt-WIDTH_LIMIT.false
 
 pub returns-then-variable-previous : goal.returns-then-variable-previous
 returns-then-variable-previous c =
-    let is-variable : c.variable_of-variable.result ≡ nat_abs (get_or c.args.clause.now c.loop-i.i (pos 0)) = (c.variable_of-variable.ensures ∙ var-kept (get_or c.args.clause.now c.loop-i.i (pos 0)) c.variable_of-arg-1.given) in
-    sym (c.loop-i.invariant.1 ∙ literals-low _ _ _ _ _ _ c.loop-i-test.true (is-variable) c.if-variable-previous.true)
+    let is-variable : c.variable_of-variable.result ≡ nat_abs (get_or c.args.clause.now c.loop-literal.literal-index (pos 0)) = (c.variable_of-variable.ensures ∙ var-kept (get_or c.args.clause.now c.loop-literal.literal-index (pos 0)) c.variable_of-arg-1.given) in
+    sym (c.loop-literal.invariant ∙ literals-low _ _ _ _ _ _ c.loop-literal-test.true (is-variable) c.if-variable-previous.true)
 
 pub returns-then-kind-eq-UNDECLARED : goal.returns-then-kind-eq-UNDECLARED
 returns-then-kind-eq-UNDECLARED c =
-    let is-variable : c.variable_of-variable.result ≡ nat_abs (get_or c.args.clause.now c.loop-i.i (pos 0)) = (c.variable_of-variable.ensures ∙ var-kept (get_or c.args.clause.now c.loop-i.i (pos 0)) c.variable_of-arg-1.given) in
-    sym (c.loop-i.invariant.1 ∙ literals-none _ _ _ _ _ _ c.loop-i-test.true (is-variable) _ c.kind_of-kind.ensures c.if-kind-eq-UNDECLARED.true)
+    let is-variable : c.variable_of-variable.result ≡ nat_abs (get_or c.args.clause.now c.loop-literal.literal-index (pos 0)) = (c.variable_of-variable.ensures ∙ var-kept (get_or c.args.clause.now c.loop-literal.literal-index (pos 0)) c.variable_of-arg-1.given) in
+    sym (c.loop-literal.invariant ∙ literals-none _ _ _ _ _ _ c.loop-literal-test.true (is-variable) _ c.kind_of-kind.ensures c.if-kind-eq-UNDECLARED.true)
 
 pub returns-then-kind-highest : goal.returns-then-kind-highest
 returns-then-kind-highest c =
-    let is-variable : c.variable_of-variable.result ≡ nat_abs (get_or c.args.clause.now c.loop-i.i (pos 0)) = (c.variable_of-variable.ensures ∙ var-kept (get_or c.args.clause.now c.loop-i.i (pos 0)) c.variable_of-arg-1.given) in
-    sym (c.loop-i.invariant.1 ∙ literals-high _ _ _ _ _ _ c.loop-i-test.true (is-variable) _ c.kind_of-kind.ensures c.if-kind-highest.true)
+    let is-variable : c.variable_of-variable.result ≡ nat_abs (get_or c.args.clause.now c.loop-literal.literal-index (pos 0)) = (c.variable_of-variable.ensures ∙ var-kept (get_or c.args.clause.now c.loop-literal.literal-index (pos 0)) c.variable_of-arg-1.given) in
+    sym (c.loop-literal.invariant ∙ literals-high _ _ _ _ _ _ c.loop-literal-test.true (is-variable) _ c.kind_of-kind.ensures c.if-kind-highest.true)
 
-pub loop-i-preserved : goal.loop-i-preserved
-loop-i-preserved c =
-    let is-variable : c.variable_of-variable.result ≡ nat_abs (get_or c.args.clause.now c.loop-i.i (pos 0)) = (c.variable_of-variable.ensures ∙ var-kept (get_or c.args.clause.now c.loop-i.i (pos 0)) c.variable_of-arg-1.given) in
-    (search rules, c.loop-i.invariant.1 ∙ literals-pass _ _ _ _ _ _ c.loop-i-test.true (is-variable) _ c.kind_of-kind.ensures c.if-variable-previous.false c.if-kind-eq-UNDECLARED.false c.if-kind-highest.false)
+pub loop-literal-preserved : goal.loop-literal-preserved
+loop-literal-preserved c =
+    let is-variable : c.variable_of-variable.result ≡ nat_abs (get_or c.args.clause.now c.loop-literal.literal-index (pos 0)) = (c.variable_of-variable.ensures ∙ var-kept (get_or c.args.clause.now c.loop-literal.literal-index (pos 0)) c.variable_of-arg-1.given) in
+    c.loop-literal.invariant ∙ literals-pass _ _ _ _ _ _ c.loop-literal-test.true (is-variable) _ c.kind_of-kind.ensures c.if-variable-previous.false c.if-kind-eq-UNDECLARED.false c.if-kind-highest.false
 
 pub returns : goal.returns
-returns c = sym (c.loop-i.invariant.1 ∙ literals_end _ _ _ _ _ c.loop-i-test.false)
+returns c = sym (c.loop-literal.invariant ∙ literals_end _ _ _ _ _ c.loop-literal-test.false)

@@ -5,4 +5,5 @@ use Rattle.tables_test.proofs.growth.one_clause.Goals as goal
 
 pub add_clause-requires : goal.add_clause-requires
 add_clause-requires c =
-    (room-is _ _ _ _ (sym c.is_full.ensures ∙ c.if-is_full.false), c.if-ends-lt2048.false, c.if-steps-ge2048.false)
+    let full = rw c.from.ensures at c.is_full.ensures in
+    (room-is _ _ _ _ (sym full ∙ c.if-is_full.false), c.if-tables-lt2048.false, c.if-tables-ge2048.false)

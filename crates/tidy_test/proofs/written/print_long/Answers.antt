@@ -6,11 +6,11 @@ use Rattle.formula_text.proofs.Laws.Written.{text-inside}
 use Rattle.tidy_test.proofs.written.print_long.Goals as goal
 
 pub slice_bounds-write_all-end : goal.slice_bounds-write_all-end
-slice_bounds-write_all-end g c = text-inside _ _ _ _ c.write_formula-written.ensures c.in-Length.is
+slice_bounds-write_all-end g c = text-inside _ _ _ _ c.write_formula.ensures c.in-Ok.is
 
-pub slice_bounds-write_all-end-in-Length : goal.slice_bounds-write_all-end-in-Length
-slice_bounds-write_all-end-in-Length g c = sym (length-take-le _ _ (text-inside _ _ _ _ c.write_formula-written.ensures c.in-Length.is))
+pub slice_bounds-write_all-end-in-Ok : goal.slice_bounds-write_all-end-in-Ok
+slice_bounds-write_all-end-in-Ok g c = sym (length-take-le _ _ (text-inside _ _ _ _ c.write_formula.ensures c.in-Ok.is))
 
-pub returns-in_ok-number-in-Length : goal.returns-in_ok-number-in-Length
-returns-in_ok-number-in-Length g c =
-    omega (arith, text-inside _ _ _ _ c.write_formula-written.ensures c.in-Length.is, c.requires)
+pub returns-in_ok-number-in-Ok : goal.returns-in_ok-number-in-Ok
+returns-in_ok-number-in-Ok g c =
+    omega (arith, text-inside _ _ _ _ c.write_formula.ensures c.in-Ok.is, c.requires)

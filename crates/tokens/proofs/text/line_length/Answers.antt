@@ -16,5 +16,5 @@ returns-then-text-passed-lt16 c =
 pub place_in_block-requires : goal.place_in_block-requires
 place_in_block-requires c = (omega arith, c.blocks_before-passed.ensures.2 (omega arith))
 
-pub returns : goal.returns
-returns c = c.place_in_block.ensures ∙ sym c.blocks_before-passed.ensures.1 ∙ line-is c.args.text.now
+pub returns-else-text-passed-lt16 : goal.returns-else-text-passed-lt16
+returns-else-text-passed-lt16 c = c.place_in_block.ensures ∙ sym c.blocks_before-passed.ensures.1 ∙ line-is c.args.text.now

@@ -1,10 +1,9 @@
 -- `judge::load_and_run`: a refused text is told at once; else the run is told.
-use borrow.Author.Rules.{rules}
 use Rattle.verdict.proofs.Laws.Judging.{judged-refused, judged-ran, ran-told}
 use Rattle.verdict.proofs.judge.load_and_run.Goals as goal
 
-pub returns-in-Refused : goal.returns-in-Refused
-returns-in-Refused c = judged-refused _ _ _ _ _ _ c.load-loaded.ensures c.in-Refused.is
+pub returns-in-Err-clause-after : goal.returns-in-Err-clause-after
+returns-in-Err-clause-after c = rw c.number.ensures (judged-refused _ _ _ _ _ _ c.load.ensures.after (rw c.in-Err.is))
 
-pub returns : goal.returns
-returns c = ran-told _ _ (judged-ran _ _ _ c.load-loaded.ensures c.in_default.is c.run-ran.ensures) c.told_by.ensures
+pub returns-clause-after : goal.returns-clause-after
+returns-clause-after c = ran-told _ _ (judged-ran _ _ _ c.load.ensures.after (rw c.in_default.is) c.run.ensures.after) c.told_by.ensures

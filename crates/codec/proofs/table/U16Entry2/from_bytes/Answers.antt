@@ -1,0 +1,7 @@
+-- `codec::table::U16Entry2::from_bytes` meets its contract.
+use Rattle.std.proofs.Common.{rules, ◌∙◌}
+use Rattle.codec.proofs.Laws.Tables.{number-of_2}
+use Rattle.codec.proofs.table.U16Entry2.from_bytes.Goals as goal
+
+pub returns : goal.returns
+returns c = c.from_le_bytes.ensures ∙ number-of_2 c.args.bytes (search rules)
