@@ -11,8 +11,8 @@
  * Results. A result has four 16-bit fields, the lowest first: the case, which is never 0, and up to three values; a field without a value is 0. Too few bytes in
  * a buffer is refusal 1; nothing is changed then, except that a load zeroes a state of 16 bytes or more. An output shorter than its text is refusal 30.
  *
- * Stack. No call uses the heap or recursion. A load was measured to use 104,872 bytes of stack, a run 38,624, a question or a shown clause 38,080, a write
- * 39,280 (docs/PERFORMANCE.md): give a thread at least 160 KB of stack. */
+ * Stack. No call uses the heap or recursion. A load was measured to use 104,848 bytes of stack, a run 38,656, a question or a shown clause 38,160, a write
+ * 39,192 (docs/PERFORMANCE.md): give a thread at least 160 KB of stack. */
 #ifndef KEFTHRUN_H
 #define KEFTHRUN_H
 

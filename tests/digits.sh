@@ -13,7 +13,7 @@ for crate in lines words formula_lines formula_text verdict; do
     done
 done
 
-! grep -nE '\b48 \+|\+ 48\b' crates/*/src/*.rt | grep -v '^crates/lines/src/digits.rt:' ||
+! grep -nE "\b48 \+|\+ 48\b|b'0' \+|\+ b'0'" crates/*/src/*.rt | grep -v '^crates/lines/src/digits.rt:' ||
     fail "digits are made elsewhere"
 
 for file in $(grep -lE '\b(print|println|eprint|eprintln|write|writeln|format|format_args)!|\.(print|println|eprint|eprintln|writeln|write_fmt)\(|to_string\(|\bPrint::|\bdbg!|\b(Display|Debug|LowerHex|UpperHex|Binary|Octal|LowerExp|UpperExp)\b|\b(itoa|ryu)\b' crates/*/src/*.rt); do

@@ -13,7 +13,7 @@ use clauses::writing;
 use dqbf::limits::{LITERAL_LIMIT, WIDTH_LIMIT};
 use dqbf::refusal::Refusal;
 use joins::Joined;
-use tables::{LentMut, State};
+use tables::{LentMut, State, adding};
 
 // Whether a joined clause is a resolvent: no complementary literals, its width, room.
 #[tactic(auto, using(std::proofs::lemmas::Bool::Decides::nat_tests), unfolding(crate::specs::Adding::joined_refusal))]
@@ -54,6 +54,7 @@ fn write_resolvent(
 pub fn add_resolvent(first: &[i16], second: &[i16], tables: &mut LentMut) -> Result<(), Refusal>
     requires { Holding (tables_held tables.old) tables.old.state }
     ensures loans { SameLoans tables.old tables.new }
+    ensures kept { (tables.new.sets.now ≡ tables.old.sets.now) × (tables.new.kinds.now ≡ tables.old.kinds.now) }
     ensures after { After (tables_held tables.old) tables.old.state
         (tested (model_in (tables_held tables.old) tables.old.state) (join first.now second.now))
         (tables_held tables.new) tables.new.state (refusal_in result) }
@@ -65,7 +66,7 @@ pub fn add_resolvent(first: &[i16], second: &[i16], tables: &mut LentMut) -> Res
         second,
         tables.state,
     )?;
-    tables.add_clause(count as u16);
+    adding::add_clause(tables, count as u16);
     Ok(())
 }
 
@@ -73,6 +74,7 @@ pub fn add_resolvent(first: &[i16], second: &[i16], tables: &mut LentMut) -> Res
 pub fn add_reduced(clause: &[i16], place: usize, tables: &mut LentMut) -> Result<(), Refusal>
     requires { Holding (tables_held tables.old) tables.old.state × (place < length clause.now) × (length clause.now ≤ width_limit) }
     ensures loans { SameLoans tables.old tables.new }
+    ensures kept { (tables.new.sets.now ≡ tables.old.sets.now) × (tables.new.kinds.now ≡ tables.old.kinds.now) }
     ensures after { After (tables_held tables.old) tables.old.state
         (fitted (model_in (tables_held tables.old) tables.old.state) (One (but_at place clause.now)))
         (tables_held tables.new) tables.new.state (refusal_in result) }
@@ -83,7 +85,7 @@ pub fn add_reduced(clause: &[i16], place: usize, tables: &mut LentMut) -> Result
     }
     let last = tables.state.literals as usize;
     let count = writing::write_without(&mut tables.literals[last..], clause, place);
-    tables.add_clause(count as u16);
+    adding::add_clause(tables, count as u16);
     Ok(())
 }
 
@@ -120,6 +122,6 @@ pub fn add_parts(clause: &[i16], split: Split, tables: &mut LentMut) -> Result<(
         split.right,
         variable,
     );
-    tables.add_fork(first as u16, second as u16, split.set);
+    adding::add_fork(tables, first as u16, second as u16, split.set);
     Ok(())
 }

@@ -1,5 +1,5 @@
 // Clause lines: the literals of a line as a clause of the tables.
-ghost use Rattle.std.specs.Prelude.{◌≡◌, map, ◌≤◌, length};
+ghost use Rattle.std.specs.Prelude.{◌≡◌, map, ◌≤◌, OnErr, length};
 ghost use Rattle.dqbf.specs.Limits.{clause_limit, literal_limit, variable_limit, width_limit};
 ghost use Rattle.dqbf.specs.Literal.{Clause, rank};
 ghost use Rattle.dqbf.specs.Reading.{Reader, clause_line};
@@ -15,7 +15,7 @@ use dqbf::limits::{LITERAL_LIMIT, WIDTH_LIMIT};
 use dqbf::refusal::Refusal;
 use prefix_lines::progress::{Phase, Progress};
 use ranks::{literals, order};
-use tables::{Lent, LentMut, VariableNumber, entries, kind};
+use tables::{Lent, LentMut, VariableNumber, adding, entries, kind};
 
 // Whether the variable of each rank is declared.
 fn all_declared(ranks: &[u32], kinds: &[u8]) -> bool
@@ -54,6 +54,7 @@ pub fn clause_line(
     requires { Within (carried progress.old tables.old.state) × (literal_limit ≤ length tables.old.literals.now) × (clause_limit ≤ length tables.old.ends.now)
         × (variable_limit ≤ length tables.old.kinds.now) }
     ensures loans { SameLoans tables.old tables.new }
+    ensures refused { OnErr result ((progress.new ≡ progress.old) × (tables.new.state ≡ tables.old.state)) }
     ensures rest { (tables.new.sets.now ≡ tables.old.sets.now) × (tables.new.kinds.now ≡ tables.old.kinds.now) }
     ensures room { SameRoom (tables_held tables.old) (tables_held tables.new) }
     ensures read { (t : Tables) (reader : Reader) (C : Clause)
@@ -71,7 +72,7 @@ pub fn clause_line(
     clause_refusal(&sorted[..width], *progress, &lent)?;
     let place = tables.state.literals as usize;
     literals::write_literals(&sorted[..width], &mut tables.literals[place..]);
-    tables.add_formula_clause(width as u16);
+    adding::add_formula_clause(tables, width as u16);
     progress.phase = Phase::ClauseLines;
     Ok(())
 }

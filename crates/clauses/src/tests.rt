@@ -9,7 +9,13 @@ pub fn place_of(clause: &[i16], literal: i16) -> Option<usize>
     ensures { MatchOption result (place_of literal clause.now ≡ length clause.now)
         (λ i. (i ≡ place_of literal clause.now) × (i < length clause.now)) }
 {
-    clause.iter().position(|l| *l == literal)
+    for i in 0..clause.len() {
+        let l = clause[i];
+        if l == literal {
+            return Some(i);
+        }
+    }
+    None
 }
 
 // Whether two masks together pick every literal and no place beyond: their bits are those below the clause's length.

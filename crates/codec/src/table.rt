@@ -2,7 +2,7 @@
 ghost use Rattle.std.specs.Prelude.{◌≡◌, ◌*◌, ◌<◌, ◌≤◌, ℕ, List, length};
 ghost use Rattle.std.proofs.Common.{lit<, lit≤};
 ghost use Rattle.codec.specs.Tables.{table_in, table_bytes, number, signed_number, digits_2, digits_8, bit_digits, exact_2, exact_8, exact_bits};
-ghost use Rattle.codec.specs.Bytes.{over};
+ghost use Rattle.codec.specs.Bytes.{signed, over};
 
 // An entry of N bytes, the lowest first.
 pub trait Entry<const N: usize>: Copy {
@@ -21,6 +21,16 @@ pub trait Entry<const N: usize>: Copy {
     ghost wide: { (0 < N) × (N ≤ 8) };
 }
 
+// A number of 16 bits as a signed one, in two's complement; by hand, since its edit names the constant.
+fn signed_of(number: u16) -> i16
+    ensures { result ≡ signed number }
+{
+    if number < 32768 {
+        return number as i16;
+    }
+    -1 - ((65535 - number) as i16)
+}
+
 impl Entry<2> for i16 {
     ghost decode = { signed_number };
 
@@ -33,7 +43,7 @@ impl Entry<2> for i16 {
     fn from_bytes(bytes: [u8; 2]) -> i16
         ensures { result ≡ signed_number bytes }
     {
-        i16::from_le_bytes(bytes)
+        signed_of(u16::from_le_bytes(bytes))
     }
 
     fn to_bytes(self) -> [u8; 2] {

@@ -22,10 +22,8 @@ pub enum Refusal {
     Malformed,
     // 21: clause number 0 or above the count
     UnknownClause,
-    // 22: a literal that does not stand in the clause
-    NotInClause,
-    // 22: a question about a variable not in use
-    UnknownVariable,
+    // 22: a literal that does not stand in the clause; a question about a variable not in use
+    Absent,
     // 23: a resolvent with complementary literals of this variable
     Clash(u16),
     // 24: more than 32 literals
@@ -61,7 +59,7 @@ impl Refusal {
             Refusal::ClauseCount => 14,
             Refusal::Malformed => 20,
             Refusal::UnknownClause => 21,
-            Refusal::NotInClause | Refusal::UnknownVariable => 22,
+            Refusal::Absent => 22,
             Refusal::Clash(_) => 23,
             Refusal::TooWide => 24,
             Refusal::NoRoom => 25,

@@ -7,7 +7,7 @@ ghost use Rattle.dqdimacs.specs.Loading.{AfterLoad, load_told, load_of};
 
 use dqbf::limits::TEXT_LIMIT;
 use dqbf::refusal::Refusal;
-use tables::{LentMut, State};
+use tables::{LentMut, State, zero};
 use texts::reading;
 pub use texts::reading::LoadRefusal;
 
@@ -25,7 +25,7 @@ pub fn load(text: &[u8], tables: &mut LentMut) -> Result<(), LoadRefusal>
             refusal: Refusal::TableTooShort,
         });
     }
-    tables.clear();
+    zero::clear(tables);
     if text.len() > TEXT_LIMIT {
         return Err(LoadRefusal {
             line: 0,
@@ -33,7 +33,7 @@ pub fn load(text: &[u8], tables: &mut LentMut) -> Result<(), LoadRefusal>
         });
     }
     if let Err(refusal) = reading::read_lines(text, tables) {
-        tables.clear();
+        zero::clear(tables);
         return Err(refusal);
     }
     Ok(())

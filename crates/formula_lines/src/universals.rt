@@ -1,5 +1,5 @@
 // The universals, listed once. `kinds` has those of the variables 1 to V, `sets` the words of their sets, `names` are universals.
-ghost use Rattle.std.specs.Prelude.{◌≡◌, ◌≤◌, length, find};
+ghost use Rattle.std.specs.Prelude.{◌≡◌, ◌≤◌, length, take, find};
 ghost use Rattle.dqbf.specs.Limits.{variable_limit};
 ghost use Rattle.dqbf.specs.Model.{universals_in};
 ghost use Rattle.sets.specs.Words.{words_each, as_set, as_sets};
@@ -7,10 +7,10 @@ ghost use Rattle.formula_lines.specs.Working.{universal_names, is_with};
 
 use tables::{VariableNumber, entries, kind as kinds_of};
 
-// Lists the universals, ascending, in the memory that is lent.
-pub fn list_universals<'a>(names: &'a mut [u32], kinds: &[u8]) -> &'a [u32]
+// Lists the universals, ascending; answers how many there are.
+pub fn list_universals(names: &mut [u32], kinds: &[u8]) -> usize
     requires { (universals_in kinds.now ≤ length names.old) × (length kinds.now ≤ variable_limit) }
-    ensures { result.now ≡ universal_names kinds.now }
+    ensures { (result ≤ length names.new) × (take result names.new ≡ universal_names kinds.now) }
 {
     let mut count = 0;
     for (i, &kind) in kinds.iter().enumerate() {
@@ -19,7 +19,7 @@ pub fn list_universals<'a>(names: &'a mut [u32], kinds: &[u8]) -> &'a [u32]
             count += 1;
         }
     }
-    &names[..count]
+    count
 }
 
 // The one of the universals that has a set.

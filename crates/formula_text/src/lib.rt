@@ -51,8 +51,8 @@ fn write_entries(writer: &mut Writer, formula: &Formula)
     ensures wrote { Wrote (text_of formula.now) writer.old.at writer.old.out.now writer.new.out.now writer.new.at }
 {
     let mut names = [0u32; UNIVERSAL_LIMIT as usize];
-    let names = universals::list_universals(&mut names, formula.kinds);
-    write_lines(writer, names, formula);
+    let count = universals::list_universals(&mut names, formula.kinds);
+    write_lines(writer, &names[..count], formula);
 }
 
 // The text of well-formed tables.

@@ -39,14 +39,14 @@ fn digit_at(n: u32, power: u32) -> Digit
     requires { n < 10 * power }
     ensures { (n ≡ result.digit * power + result.rest) × (result.rest < power) × (result.digit ≤ 9) }
 {
+    let mut digit = 0;
     let mut rest = n;
-    for digit in 0..9 {
-        if rest < power {
-            return Digit { digit, rest };
-        }
+    // no range: with one exit the compiler makes a multiplication of this loop where the power is a numeral, with two it does not
+    while digit < 9 && power <= rest {
         rest -= power;
+        digit += 1;
     }
-    Digit { digit: 9, rest }
+    Digit { digit, rest }
 }
 
 // How far a number is written: where its next digit goes, and what is left of the number.

@@ -1,5 +1,5 @@
 // The prefix lines: variables declared, one after the other, in the kinds and the sets.
-ghost use Rattle.std.specs.Prelude.{◌≡◌, true, [], ◌∷◌, ℕ, ◌+◌, ◌≤◌, ◌<◌, length, get_or, drop};
+ghost use Rattle.std.specs.Prelude.{◌≡◌, true, [], ◌∷◌, ℕ, ◌+◌, ◌≤◌, ◌<◌, OnErr, length, get_or, drop};
 ghost use Rattle.std.proofs.Math.Option.{none};
 ghost use Rattle.dqbf.specs.Limits.{universal_limit};
 ghost use Rattle.dqbf.specs.Reading.{Reader, prefix_lines, a_line, e_line, d_line, taken};
@@ -45,6 +45,7 @@ fn declare_one(variable: u32, universal: bool, tables: &mut LentMut) -> Result<(
         × (universal ≡ true → tables.old.state.universals < universal_limit) × (tables.old.state.universals ≤ universal_limit) }
     ensures loans { SameLoans tables.old tables.new }
     ensures counts { OneMore tables.old.state tables.new.state }
+    ensures refused { OnErr result (tables.new.state ≡ tables.old.state) }
     ensures rest { (tables.new.literals.now ≡ tables.old.literals.now) × (tables.new.ends.now ≡ tables.old.ends.now) }
     ensures room { SameRoom (tables_held tables.old) (tables_held tables.new) }
     ensures read { (t : Tables) (reader : Reader) (progress : Progress)
@@ -70,14 +71,19 @@ fn declare_all(variables: &[u32], universal: bool, tables: &mut LentMut) -> Resu
         × (tables.old.state.bound.0 ≤ length tables.old.kinds.now) × (universal ≡ true → tables.old.state.universals + length variables.now ≤ universal_limit)
         × (tables.old.state.universals ≤ universal_limit) }
     ensures loans { SameLoans tables.old tables.new }
+    ensures refused { OnErr result (tables.new.state ≡ tables.old.state) }
     ensures rest { (tables.new.literals.now ≡ tables.old.literals.now) × (tables.new.ends.now ≡ tables.old.ends.now) }
     ensures room { SameRoom (tables_held tables.old) (tables_held tables.new) }
     ensures read { (t : Tables) (reader : Reader) (progress : Progress)
         → ReadSoFar t reader (carried progress tables.old.state) (tables_held tables.old) → reader.phase ≡ prefix_lines
         → DeclaredAll universal variables.now t reader (refusal_in result) (carried progress tables.new.state) (tables_held tables.new) }
 {
+    let before = tables.state;
     for variable in variables {
-        declare_one(*variable, universal, tables)?;
+        if let Err(refusal) = declare_one(*variable, universal, tables) {
+            tables.state = before;
+            return Err(refusal);
+        }
     }
     Ok(())
 }
@@ -108,6 +114,7 @@ pub fn existential_line(
     requires { ((i : ℕ) → i < length variables.now → 0 < get_or variables.now i 0) × (tables.old.state.bound.0 ≤ length (as_sets words_each tables.old.sets.now))
         × (tables.old.state.bound.0 ≤ length tables.old.kinds.now) × (tables.old.state.universals ≤ universal_limit) }
     ensures loans { SameLoans tables.old tables.new }
+    ensures refused { OnErr result (tables.new.state ≡ tables.old.state) }
     ensures rest { (tables.new.literals.now ≡ tables.old.literals.now) × (tables.new.ends.now ≡ tables.old.ends.now) }
     ensures room { SameRoom (tables_held tables.old) (tables_held tables.new) }
     ensures read { (t : Tables) (reader : Reader)
@@ -129,6 +136,7 @@ pub fn dependent_line(
     requires { (0 < length numbers.now) × (0 < get_or numbers.now 0 0) × (tables.old.state.bound.0 ≤ length (as_sets words_each tables.old.sets.now))
         × (tables.old.state.bound.0 ≤ length tables.old.kinds.now) }
     ensures loans { SameLoans tables.old tables.new }
+    ensures refused { OnErr result (tables.new.state ≡ tables.old.state) }
     ensures rest { (tables.new.literals.now ≡ tables.old.literals.now) × (tables.new.ends.now ≡ tables.old.ends.now) }
     ensures room { SameRoom (tables_held tables.old) (tables_held tables.new) }
     ensures read { (t : Tables) (reader : Reader)
@@ -156,6 +164,7 @@ pub fn universal_line(
     requires { ((i : ℕ) → i < length variables.now → 0 < get_or variables.now i 0) × (tables.old.state.bound.0 ≤ length (as_sets words_each tables.old.sets.now))
         × (tables.old.state.bound.0 ≤ length tables.old.kinds.now) × (tables.old.state.universals ≤ universal_limit) × (universal_limit < length known.old) }
     ensures loans { SameLoans tables.old tables.new }
+    ensures refused { OnErr result (tables.new.state ≡ tables.old.state) }
     ensures rest { (tables.new.literals.now ≡ tables.old.literals.now) × (tables.new.ends.now ≡ tables.old.ends.now) }
     ensures room { SameRoom (tables_held tables.old) (tables_held tables.new) }
     ensures read { (t : Tables) (reader : Reader)

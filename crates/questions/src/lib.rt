@@ -16,7 +16,7 @@ pub struct VariableEntry {
 }
 
 // The clause's own stretch of the literals, with no copy made; the empty stretch at the start for an unknown number, short or ill-formed tables.
-pub fn show<'a>(tables: &Lent<'a>, clause: ClauseNumber) -> &'a [i16]
+pub fn show<'l>(tables: &Lent<'l, '_>, clause: ClauseNumber) -> &'l [i16]
     ensures { Shown (tables_lent tables.now) tables.now.state clause.0 tables.now.literals result }
 {
     let nothing = &tables.literals[..0];
@@ -54,10 +54,10 @@ pub fn variable(tables: &Lent, number: VariableNumber) -> Result<VariableEntry, 
 {
     tables.usable()?;
     if number.0 == 0 {
-        return Err(Refusal::UnknownVariable);
+        return Err(Refusal::Absent);
     }
     if number.0 > tables.state.variables.0 {
-        return Err(Refusal::UnknownVariable);
+        return Err(Refusal::Absent);
     }
     let kind = entries::kind_of(tables.kinds, number);
     let set = entries::set_of(tables.sets, number);

@@ -1,7 +1,7 @@
 -- DEMAND 1, "refusals leave exactly the stated contents" (document 01, "Numbers of refusal": "After 1 and 2 tables and state are unchanged", to "as before that
 -- step"): what each refused call leaves.
 --
--- `load_of`, `step_of` and `run_of` are the outcomes that the contracts of `load`, `step` and `run` promise of lent tables (`refusal_in` and `run_told` give the answer
+-- `load_of`, `step_of` and `run_of` are the outcomes that the contracts of `load`, `step` and `run` promise of lent tables (`refusal_in` of dqbf and `run_told` give the answer
 -- for each case of the code's). So the claims hold of these calls for all table contents, every state and all bytes; `long` is the test of number 1, `well_formed` that of number 2.
 --     ShortSame          number 1: load, step and run leave all four tables, step and run the state; a load hands back a zero state
 --     FormlessSame       number 2: step and run leave tables and state

@@ -1,5 +1,6 @@
 // The three rules (document 01, "Step records"), each with its tests in order. The sources of an accepted step are copied by value
 // before the tail of the literals is lent to its writer: two parts of one slice cannot be lent together.
+ghost use Rattle.std.specs.Prelude.{◌≡◌};
 ghost use Rattle.dqbf.specs.Limits as Limits;
 ghost use Rattle.dqbf.specs.Record as Record;
 ghost use Rattle.dqbf.specs.Run.{examine};
@@ -25,6 +26,7 @@ pub fn resolve(
 ) -> Result<(), Refusal>
     requires { Holding (tables_held tables.old) tables.old.state }
     ensures loans { SameLoans tables.old tables.new }
+    ensures kept { (tables.new.sets.now ≡ tables.old.sets.now) × (tables.new.kinds.now ≡ tables.old.kinds.now) }
     ensures after { After (tables_held tables.old) tables.old.state
         (examine Limits.tables (model_in (tables_held tables.old) tables.old.state) (Record.resolution first.0 second.0 pivot))
         (tables_held tables.new) tables.new.state (refusal_in result) }
@@ -41,10 +43,10 @@ pub fn resolve(
     let x = clause::clause_at(lent.literals, lent.ends, first);
     let y = clause::clause_at(lent.literals, lent.ends, second);
     let Some(i) = tests::place_of(x, positive) else {
-        return Err(Refusal::NotInClause);
+        return Err(Refusal::Absent);
     };
     let Some(j) = tests::place_of(y, negative) else {
-        return Err(Refusal::NotInClause);
+        return Err(Refusal::Absent);
     };
     let left = Held::hold_without(x, i);
     let right = Held::hold_without(y, j);
@@ -55,6 +57,7 @@ pub fn resolve(
 pub fn reduce(number: ClauseNumber, value: i32, tables: &mut LentMut) -> Result<(), Refusal>
     requires { Holding (tables_held tables.old) tables.old.state }
     ensures loans { SameLoans tables.old tables.new }
+    ensures kept { (tables.new.sets.now ≡ tables.old.sets.now) × (tables.new.kinds.now ≡ tables.old.kinds.now) }
     ensures after { After (tables_held tables.old) tables.old.state
         (examine Limits.tables (model_in (tables_held tables.old) tables.old.state) (Record.reduction number.0 value))
         (tables_held tables.new) tables.new.state (refusal_in result) }
@@ -66,7 +69,7 @@ pub fn reduce(number: ClauseNumber, value: i32, tables: &mut LentMut) -> Result<
     let reduced = literal::narrowed(value);
     let x = clause::clause_at(lent.literals, lent.ends, number);
     let Some(place) = tests::place_of(x, reduced) else {
-        return Err(Refusal::NotInClause);
+        return Err(Refusal::Absent);
     };
     let variable = VariableNumber(literal::variable_of(reduced) as u32);
     if entries::kind_of(lent.kinds, variable) != kind::UNIVERSAL {

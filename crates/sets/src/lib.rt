@@ -42,7 +42,7 @@ pub fn size(s: [u64; 4]) -> u32
 pub fn same(s: [u64; 4], t: [u64; 4]) -> bool
     ensures { result ≡ eqb (as_set s) (as_set t) }
 {
-    s == t
+    (s[0] == t[0]) & (s[1] == t[1]) & (s[2] == t[2]) & (s[3] == t[3])
 }
 
 // Whether a set is empty.

@@ -8,10 +8,11 @@ ghost use Rattle.steps.specs.Steps.{run_told, AfterRun, ran_on, run_of};
 ghost use Rattle.additions.specs.Adding.{Holding};
 ghost use Rattle.steps.specs.Runs.{records_in, verdict_in};
 
-use crate::{BadStep, Outcome, step};
+use crate::{BadStep, Outcome};
 use dqbf::limits::RECORDS_LIMIT;
 use dqbf::refusal::Refusal;
 use records::RECORD_SIZE;
+use rules::examine;
 use tables::{LentMut, State, StepNumber};
 
 // Refuted if there is an empty clause, else open.
@@ -35,9 +36,16 @@ fn run_records(bytes: &[u8], tables: &mut LentMut) -> Result<Outcome, BadStep>
         (Run.run_from Limits.tables (records_in bytes.now) 0 (model_in (tables_held tables.old) tables.old.state))) }
 {
     for (i, record) in bytes.chunks(RECORD_SIZE).enumerate() {
-        if let Err(refusal) = step::examine_record(record, tables) {
+        let number = StepNumber(i as u32 + 1);
+        let Some(step) = records::decode(record) else {
             return Err(BadStep {
-                step: StepNumber(i as u32 + 1),
+                step: number,
+                refusal: Refusal::Malformed,
+            });
+        };
+        if let Err(refusal) = examine::examine(step, tables) {
+            return Err(BadStep {
+                step: number,
                 refusal,
             });
         }

@@ -16,3 +16,10 @@ pub record SameLoans (before after : LentMut) : Type 0 where
   pub ends : after.ends.ghost_name ≡ before.ends.ghost_name
   pub sets : after.sets.ghost_name ≡ before.sets.ghost_name
   pub kinds : after.kinds.ghost_name ≡ before.kinds.ghost_name
+
+-- each slice stands where the caller's own does
+pub record SamePlaces (own : LentMut) (shown : Lent) : Type 0 where
+  pub literals : shown.literals.ref_ptr ≡ own.literals.ref_ptr
+  pub ends : shown.ends.ref_ptr ≡ own.ends.ref_ptr
+  pub sets : shown.sets.ref_ptr ≡ own.sets.ref_ptr
+  pub kinds : shown.kinds.ref_ptr ≡ own.kinds.ref_ptr

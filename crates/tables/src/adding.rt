@@ -98,19 +98,6 @@ impl LentMut<'_> {
         self.state = self.state.with_clause(width);
     }
 
-    // One more formula clause.
-    #[tactic(auto, unfolding(crate::specs::Adding::clause_ended, crate::specs::Adding::variable_added))]
-    pub fn add_formula_clause(&mut self, width: u16)
-        requires { RoomFor self.old.state 1 width 0 × (clause_limit ≤ length self.old.ends.now) × (self.old.state.formula.0 < clause_limit) }
-        ensures loans { SameLoans self.old self.new }
-        ensures state { self.new.state ≡ formula_counted (clause_ended self.old.state width) }
-        ensures ends { self.new.ends.now ≡ List.set self.old.ends.now self.old.state.clauses.0 (self.old.state.literals + width) }
-        ensures rest { (self.new.literals.now ≡ self.old.literals.now) × (self.new.sets.now ≡ self.old.sets.now) × (self.new.kinds.now ≡ self.old.kinds.now) }
-    {
-        self.end_clause(width);
-        self.state = self.state.with_formula_clause();
-    }
-
     // One more variable in use, a fork variable with its set.
     fn add_variable(&mut self, set: [u64; 4])
         requires { RoomFor self.old.state 0 0 1 × (variable_limit ≤ length (as_sets words_each self.old.sets.now)) × (variable_limit ≤ length self.old.kinds.now) }
@@ -126,37 +113,50 @@ impl LentMut<'_> {
         self.kinds[place] = kind::FORK;
         self.state = self.state.with_variable();
     }
+}
 
-    // An accepted step that adds one clause.
-    #[tactic(auto, unfolding(crate::specs::Adding::clause_ended, crate::specs::Adding::variable_added))]
-    pub fn add_clause(&mut self, width: u16)
-        requires { RoomFor self.old.state 1 width 0 × (clause_limit ≤ length self.old.ends.now) × (self.old.state.steps.0 < clause_limit) }
-        ensures loans { SameLoans self.old self.new }
-        ensures state { self.new.state ≡ step_counted (clause_ended self.old.state width) }
-        ensures ends { self.new.ends.now ≡ List.set self.old.ends.now self.old.state.clauses.0 (self.old.state.literals + width) }
-        ensures rest { (self.new.literals.now ≡ self.old.literals.now) × (self.new.sets.now ≡ self.old.sets.now) × (self.new.kinds.now ≡ self.old.kinds.now) }
-    {
-        self.end_clause(width);
-        self.state = self.state.with_step();
-    }
+// One more formula clause.
+#[tactic(auto, unfolding(crate::specs::Adding::clause_ended, crate::specs::Adding::variable_added))]
+pub fn add_formula_clause(tables: &mut LentMut, width: u16)
+    requires { RoomFor tables.old.state 1 width 0 × (clause_limit ≤ length tables.old.ends.now) × (tables.old.state.formula.0 < clause_limit) }
+    ensures loans { SameLoans tables.old tables.new }
+    ensures state { tables.new.state ≡ formula_counted (clause_ended tables.old.state width) }
+    ensures ends { tables.new.ends.now ≡ List.set tables.old.ends.now tables.old.state.clauses.0 (tables.old.state.literals + width) }
+    ensures rest { (tables.new.literals.now ≡ tables.old.literals.now) × (tables.new.sets.now ≡ tables.old.sets.now) × (tables.new.kinds.now ≡ tables.old.kinds.now) }
+{
+    tables.end_clause(width);
+    tables.state = tables.state.with_formula_clause();
+}
 
-    // An accepted fork: two clauses and a variable with its set.
-    #[tactic(auto, unfolding(crate::specs::Adding::clause_ended, crate::specs::Adding::variable_added))]
-    pub fn add_fork(&mut self, left: u16, right: u16, set: [u64; 4])
-        requires { RoomFor self.old.state 2 (left + right) 1 × (clause_limit ≤ length self.old.ends.now) × (variable_limit ≤ length (as_sets words_each self.old.sets.now))
-            × (variable_limit ≤ length self.old.kinds.now) × (self.old.state.steps.0 < clause_limit) }
-        ensures loans { SameLoans self.old self.new }
-        ensures state { self.new.state ≡ step_counted (variable_added (clause_ended (clause_ended self.old.state left) right)) }
-        ensures ends { self.new.ends.now
-            ≡ List.set (List.set self.old.ends.now self.old.state.clauses.0 (self.old.state.literals + left)) (self.old.state.clauses.0 + 1) (self.old.state.literals + left + right) }
-        ensures sets { as_sets words_each self.new.sets.now ≡ List.set (as_sets words_each self.old.sets.now) self.old.state.variables.0 (as_set set) }
-        ensures spare { spare_in words_each self.new.sets.now ≡ spare_in words_each self.old.sets.now }
-        ensures kinds { self.new.kinds.now ≡ List.set self.old.kinds.now self.old.state.variables.0 3 }
-        ensures literals { self.new.literals.now ≡ self.old.literals.now }
-    {
-        self.end_clause(left);
-        self.end_clause(right);
-        self.add_variable(set);
-        self.state = self.state.with_step();
-    }
+// An accepted step that adds one clause.
+#[tactic(auto, unfolding(crate::specs::Adding::clause_ended, crate::specs::Adding::variable_added))]
+pub fn add_clause(tables: &mut LentMut, width: u16)
+    requires { RoomFor tables.old.state 1 width 0 × (clause_limit ≤ length tables.old.ends.now) × (tables.old.state.steps.0 < clause_limit) }
+    ensures loans { SameLoans tables.old tables.new }
+    ensures state { tables.new.state ≡ step_counted (clause_ended tables.old.state width) }
+    ensures ends { tables.new.ends.now ≡ List.set tables.old.ends.now tables.old.state.clauses.0 (tables.old.state.literals + width) }
+    ensures rest { (tables.new.literals.now ≡ tables.old.literals.now) × (tables.new.sets.now ≡ tables.old.sets.now) × (tables.new.kinds.now ≡ tables.old.kinds.now) }
+{
+    tables.end_clause(width);
+    tables.state = tables.state.with_step();
+}
+
+// An accepted fork: two clauses and a variable with its set.
+#[tactic(auto, unfolding(crate::specs::Adding::clause_ended, crate::specs::Adding::variable_added))]
+pub fn add_fork(tables: &mut LentMut, left: u16, right: u16, set: [u64; 4])
+    requires { RoomFor tables.old.state 2 (left + right) 1 × (clause_limit ≤ length tables.old.ends.now) × (variable_limit ≤ length (as_sets words_each tables.old.sets.now))
+        × (variable_limit ≤ length tables.old.kinds.now) × (tables.old.state.steps.0 < clause_limit) }
+    ensures loans { SameLoans tables.old tables.new }
+    ensures state { tables.new.state ≡ step_counted (variable_added (clause_ended (clause_ended tables.old.state left) right)) }
+    ensures ends { tables.new.ends.now
+        ≡ List.set (List.set tables.old.ends.now tables.old.state.clauses.0 (tables.old.state.literals + left)) (tables.old.state.clauses.0 + 1) (tables.old.state.literals + left + right) }
+    ensures sets { as_sets words_each tables.new.sets.now ≡ List.set (as_sets words_each tables.old.sets.now) tables.old.state.variables.0 (as_set set) }
+    ensures spare { spare_in words_each tables.new.sets.now ≡ spare_in words_each tables.old.sets.now }
+    ensures kinds { tables.new.kinds.now ≡ List.set tables.old.kinds.now tables.old.state.variables.0 3 }
+    ensures literals { tables.new.literals.now ≡ tables.old.literals.now }
+{
+    tables.end_clause(left);
+    tables.end_clause(right);
+    tables.add_variable(set);
+    tables.state = tables.state.with_step();
 }

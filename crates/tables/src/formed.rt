@@ -146,7 +146,8 @@ fn highest_kind(place: usize, formula: usize) -> u8
     kind::FORK
 }
 
-// The clauses between the ends in use, and the lowest empty one.
+// The clauses between the ends in use, and the lowest empty one. A function of its own, since its inner loop, over every literal of the tables, wants all registers.
+#[inline(never)]
 fn clauses_fit(
     literals: &[i16],
     ends: &[u16],
@@ -183,7 +184,7 @@ fn clauses_fit(
     empty == lowest
 }
 
-impl Lent<'_> {
+impl Lent<'_, '_> {
     // No table is lent too short.
     #[tactic(auto, using(std::proofs::lemmas::Bool::Decides::nat_tests, crate::proofs::Laws::Lent::word_tests), unfolding(crate::specs::WellFormed::long, crate::specs::WellFormed::every))]
     pub fn is_long(&self) -> bool
@@ -222,39 +223,6 @@ impl Lent<'_> {
         zero::all_are(&self.kinds[variables..VARIABLE_LIMIT], &0)
     }
 
-    // Tables that are long enough are well formed.
-    pub fn is_well_formed(&self) -> bool
-        requires { long (tables_lent self.now) ≡ true }
-        ensures { result ≡ well_formed (tables_lent self.now) self.now.state }
-    {
-        let state = self.state;
-        if !counts_fit(state) {
-            return false;
-        }
-        let clauses = state.clauses.0 as usize;
-        let variables = state.variables.0 as usize;
-        let words = 4 * variables;
-        if !clauses_fit(
-            self.literals,
-            &self.ends[..clauses],
-            &self.kinds[..variables],
-            state.formula.0 as usize,
-            state.literals,
-            state.empty.0,
-        ) {
-            return false;
-        }
-        if !variables_fit(
-            &self.kinds[..variables],
-            &self.sets[..words],
-            state.bound.0 as usize,
-            state.universals,
-        ) {
-            return false;
-        }
-        self.is_rest_zero()
-    }
-
     // The refusals that come before all others, 1 and 2.
     pub fn usable(&self) -> Result<(), Refusal>
         ensures { refusal_in result ≡ unusable (tables_lent self.now) self.now.state }
@@ -262,9 +230,42 @@ impl Lent<'_> {
         if !self.is_long() {
             return Err(Refusal::TableTooShort);
         }
-        if !self.is_well_formed() {
+        if !is_well_formed(self) {
             return Err(Refusal::NotWellFormed);
         }
         Ok(())
     }
+}
+
+// Tables that are long enough are well formed.
+pub fn is_well_formed(lent: &Lent) -> bool
+    requires { long (tables_lent lent.now) ≡ true }
+    ensures { result ≡ well_formed (tables_lent lent.now) lent.now.state }
+{
+    let state = lent.state;
+    if !counts_fit(state) {
+        return false;
+    }
+    let clauses = state.clauses.0 as usize;
+    let variables = state.variables.0 as usize;
+    let words = 4 * variables;
+    if !clauses_fit(
+        lent.literals,
+        &lent.ends[..clauses],
+        &lent.kinds[..variables],
+        state.formula.0 as usize,
+        state.literals,
+        state.empty.0,
+    ) {
+        return false;
+    }
+    if !variables_fit(
+        &lent.kinds[..variables],
+        &lent.sets[..words],
+        state.bound.0 as usize,
+        state.universals,
+    ) {
+        return false;
+    }
+    lent.is_rest_zero()
 }

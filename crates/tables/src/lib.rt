@@ -2,7 +2,7 @@
 #![tactic(auto)]
 
 ghost use Rattle.std.specs.Prelude.{◌≡◌};
-ghost use Rattle.tables.specs.Lent.{tables_lent, tables_held};
+ghost use Rattle.tables.specs.Lent.{tables_lent, tables_held, SamePlaces};
 
 // Clause, step and variable numbers are three separate counters.
 #[derive(Clone, Copy, PartialEq, Eq, PartialOrd, Ord, Default)]
@@ -32,10 +32,10 @@ pub struct State {
     pub empty: ClauseNumber,
 }
 
-// The four tables to be read, with their state.
+// The four tables to be read, with their state. The literals are lent for a time of their own: a shown clause keeps them lent, and no other table.
 #[derive(Clone, Copy)]
-pub struct Lent<'a> {
-    pub literals: &'a [i16],
+pub struct Lent<'l, 'a> {
+    pub literals: &'l [i16],
     pub ends: &'a [u16],
     pub sets: &'a [u64],
     pub kinds: &'a [u8],
@@ -54,13 +54,14 @@ pub struct LentMut<'a> {
 
 impl LentMut<'_> {
     // The same to be read.
-    pub fn view(&self) -> Lent<'_>
+    pub fn view(&self) -> Lent<'_, '_>
         ensures literals { result.literals.now ≡ self.now.literals.now }
         ensures ends { result.ends.now ≡ self.now.ends.now }
         ensures sets { result.sets.now ≡ self.now.sets.now }
         ensures kinds { result.kinds.now ≡ self.now.kinds.now }
         ensures tables { tables_lent result ≡ tables_held self.now }
         ensures state { result.state ≡ self.now.state }
+        ensures places { SamePlaces self.now result }
     {
         Lent {
             literals: self.literals,

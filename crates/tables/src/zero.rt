@@ -28,18 +28,16 @@ fn fill_front<T: Clone + Drop>(entries: &mut [T], size: usize, value: T)
     entries[..size].fill(value);
 }
 
-impl LentMut<'_> {
-    // The stated sizes of all four tables become 0, and the state, as a refused formula leaves them.
-    pub fn clear(&mut self)
-        requires { long (tables_held self.old) ≡ true }
-        ensures loans { SameLoans self.old self.new }
-        ensures tables { tables_held self.new ≡ spread blank (tables_held self.old) }
-        ensures state { self.new.state ≡ zero_state }
-    {
-        fill_front(self.literals, LITERAL_LIMIT, 0);
-        fill_front(self.ends, CLAUSE_LIMIT, 0);
-        fill_front(self.sets, sets::TABLE_WORDS, 0);
-        fill_front(self.kinds, VARIABLE_LIMIT, 0);
-        self.state = State::default();
-    }
+// The stated sizes of all four tables become 0, and the state, as a refused formula leaves them.
+pub fn clear(tables: &mut LentMut)
+    requires { long (tables_held tables.old) ≡ true }
+    ensures loans { SameLoans tables.old tables.new }
+    ensures tables { tables_held tables.new ≡ spread blank (tables_held tables.old) }
+    ensures state { tables.new.state ≡ zero_state }
+{
+    fill_front(tables.literals, LITERAL_LIMIT, 0);
+    fill_front(tables.ends, CLAUSE_LIMIT, 0);
+    fill_front(tables.sets, sets::TABLE_WORDS, 0);
+    fill_front(tables.kinds, VARIABLE_LIMIT, 0);
+    tables.state = State::default();
 }

@@ -53,7 +53,7 @@ impl Sample {
         sample
     }
 
-    pub fn lent(&self) -> Lent<'_> {
+    pub fn lent(&self) -> Lent<'_, '_> {
         Lent {
             literals: &self.literals,
             ends: &self.ends,

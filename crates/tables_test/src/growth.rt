@@ -2,7 +2,7 @@
 use super::build::{self, Sample};
 use super::questioned;
 use std::io;
-use tables::{Lent, LentMut};
+use tables::{Lent, LentMut, adding, zero};
 
 fn one_clause(tables: &mut LentMut, width: u16) {
     if tables.state.is_full(1, u32::from(width), 0)
@@ -11,7 +11,7 @@ fn one_clause(tables: &mut LentMut, width: u16) {
     {
         return;
     }
-    tables.add_clause(width);
+    adding::add_clause(tables, width);
 }
 
 fn one_fork(tables: &mut LentMut, left: u16, right: u16, set: [u64; 4]) {
@@ -27,7 +27,7 @@ fn one_fork(tables: &mut LentMut, left: u16, right: u16, set: [u64; 4]) {
     if tables.state.steps.0 >= 2048 {
         return;
     }
-    tables.add_fork(left, right, set);
+    adding::add_fork(tables, left, right, set);
 }
 
 // A step that adds the clause {3}, then a fork that adds {1, 7} and {4, -7}.
@@ -56,7 +56,7 @@ pub fn cleared(rt: &impl Print) -> io::Result<()> {
     let mut sample = Sample::marked();
     let mut tables = sample.lent_mut();
     if tables.view().is_long() {
-        tables.clear();
+        zero::clear(&mut tables);
     }
     build::judged(rt, "cleared", &tables.view())?;
     marks(rt, &sample)

@@ -1,5 +1,5 @@
 // Lines from the top: each is read by its form.
-ghost use Rattle.std.specs.Prelude.{◌≡◌, ◌*◌, ◌≤◌, ◌<◌, length};
+ghost use Rattle.std.specs.Prelude.{◌≡◌, ◌*◌, ◌≤◌, ◌<◌, OnErr, length};
 ghost use Rattle.std.proofs.Math.Option.{none};
 ghost use Rattle.dqbf.specs.Limits.{clause_limit, literal_limit, variable_limit, universal_limit};
 ghost use Rattle.dqbf.specs.Reading.{Reader, comment, header, form_of, taken};
@@ -48,6 +48,7 @@ fn header_line(
     tables: &mut LentMut,
 ) -> Result<(), Refusal>
     ensures loans { SameLoans tables.old tables.new }
+    ensures refused { OnErr result ((progress.new ≡ progress.old) × (tables.new.state ≡ tables.old.state)) }
     ensures rest { tables_held tables.new ≡ tables_held tables.old }
     ensures read { (t : Tables) (reader : Reader) → ReadSoFar t reader (carried progress.old tables.old.state) (tables_held tables.old)
         → LineRead t reader (header bound count) (refusal_in result) (carried progress.new tables.new.state) (tables_held tables.new) }
@@ -81,6 +82,7 @@ pub fn read_line(
         × (literal_limit ≤ length tables.old.literals.now) × (clause_limit ≤ length tables.old.ends.now)
         × (variable_limit ≤ length (as_sets words_each tables.old.sets.now)) × (variable_limit ≤ length tables.old.kinds.now) }
     ensures loans { SameLoans tables.old tables.new }
+    ensures refused { OnErr result ((progress.new ≡ progress.old) × (tables.new.state ≡ tables.old.state)) }
     ensures room { SameRoom (tables_held tables.old) (tables_held tables.new) }
     ensures read { (t : Tables) (reader : Reader)
         → ReadSoFar t reader (carried progress.old tables.old.state) (tables_held tables.old) → Known reader known.old

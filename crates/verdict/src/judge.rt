@@ -4,7 +4,7 @@ ghost use Rattle.dqbf.specs.Line.{verdict_line};
 ghost use Rattle.tables.specs.Lent.{tables_held, SameLoans};
 ghost use Rattle.steps.specs.Steps.{run_told};
 ghost use Rattle.lines.specs.Lines.{line_of, written, with_line};
-ghost use Rattle.verdict.specs.Judging.{judged_line, judged_tables};
+ghost use Rattle.verdict.specs.Judging.{judged_line, judged_tables, judged_state};
 
 use lines::line;
 use lines::line::Verdict;
@@ -27,7 +27,8 @@ fn told_by(answer: Result<Outcome, BadStep>) -> Verdict
 fn load_and_run(text: &[u8], records: &[u8], tables: &mut LentMut) -> Verdict
     ensures loans { SameLoans tables.old tables.new }
     ensures after { (line_of result ≡ judged_line (tables_held tables.old) text.now records.now)
-        × (tables_held tables.new ≡ judged_tables (tables_held tables.old) text.now records.now) }
+        × (tables_held tables.new ≡ judged_tables (tables_held tables.old) text.now records.now)
+        × (tables.new.state ≡ judged_state (tables_held tables.old) text.now records.now) }
 {
     if let Err(refused) = dqdimacs::load(text, tables) {
         return Verdict::Formula(refused.line, refused.refusal.number() as u32);
@@ -41,7 +42,8 @@ pub fn judge(text: &[u8], records: &[u8], tables: &mut LentMut, out: &mut [u8]) 
     ensures loans { SameLoans tables.old tables.new }
     ensures after { (result ≡ written (judged_line (tables_held tables.old) text.now records.now) out.old)
         × (out.new ≡ with_line (judged_line (tables_held tables.old) text.now records.now) out.old)
-        × (tables_held tables.new ≡ judged_tables (tables_held tables.old) text.now records.now) }
+        × (tables_held tables.new ≡ judged_tables (tables_held tables.old) text.now records.now)
+        × (tables.new.state ≡ judged_state (tables_held tables.old) text.now records.now) }
 {
     let verdict = load_and_run(text, records, tables);
     line::write_line(out, verdict)

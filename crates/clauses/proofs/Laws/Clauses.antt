@@ -54,6 +54,13 @@ module _ (l : ℤ) where
       rw (same_not k l (n 0 (pos 0) (omega arith) (omega arith)), suc-add i (place_of l (drop i C)))
       (ap suc (place-behind C i (le_of_suc-le-suc h) (λ j d a b. n (suc j) d (omega arith) (omega arith))))
 
+  pub place-here : (C : Clause) (i : ℕ) → i < length C → get_or C i (pos 0) ≡ l → AllWithin (λ x. x ≢ l) C 0 i → (i ≡ place_of l C) × (i < length C)
+  unfolding place_of
+  place-here C i h there n =
+      let e = place-behind C i (omega arith) n in
+      let here : place_of l (drop i C) ≡ 0 = rw (list-front C i (pos 0) h, there, same-same l) in
+      (omega (arith, e, here), h)
+
   pub place-found : (C : Clause) (r : Option ℕ) → Found l C r → MatchOption r (place_of l C ≡ length C) (λ i. (i ≡ place_of l C) × (i < length C))
   unfolding place_of
   place-found C None n =

@@ -178,5 +178,8 @@ digits-of_8 n =
 pub signed_number-of : (bs : List ℕ) → length bs ≡ 2 → {z : ℤ} → SFits w16 z → z ≡ to_z w16 (from_le_bytes w16 bs) → to_z w16 (of_z w16 z) ≡ signed_number bs
 signed_number-of bs h {z} f e = to_z-of_z f ∙ e ∙ cast-signed (from_le_bytes w16 bs) ∙ ap signed (number-of_2 bs h)
 
+pub signed_number-made : (bs : List ℕ) {z : ℤ} {n : ℕ} → SFits w16 z → z ≡ signed n → n ≡ number bs → to_z w16 (of_z w16 z) ≡ signed_number bs
+signed_number-made bs f e q = to_z-of_z f ∙ e ∙ ap signed q
+
 pub bit_digits-of : (z : ℤ) → SFits w16 z → {bs : List ℕ} → bs ≡ to_le_bytes w16 (of_z w16 (to_z w16 (of_z w16 z))) → bs ≡ bit_digits z
 bit_digits-of z f {bs} e = e ∙ ap (to_le_bytes w16) (ap (of_z w16) (to_z-of_z f) ∙ cast-unsigned z f) ∙ digits-of_2 (bits z)

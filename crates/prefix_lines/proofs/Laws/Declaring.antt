@@ -284,7 +284,7 @@ module _ (universal : Bool) (xs : List ℕ) (t : Tables) (r : Reader) where
       rw (add-one, take-suc xs i 0 more, map_more (on_line universal) (take i xs) (get_or xs i 0), ← declaring-more r (map (on_line universal) (take i xs)) (on_line universal (get_or xs i 0) ∷ [])) (d.held z),
     )
 
-    pub all-refused : {x : Refusal} → a ≡ some x → DeclaredAll universal xs t r (some x) p' now'
+    pub all-refused : {x : Refusal} {left : Carried} → a ≡ some x → DeclaredAll universal xs t r (some x) left now'
     all-refused {x} n =
         let w = refused-told (fresh r.formula.bound (declared r.formula.prefix ++ take i xs) (get_or xs i 0 ∷ [])) (sym n ∙ told) in
         record {

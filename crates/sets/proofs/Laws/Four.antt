@@ -80,9 +80,12 @@ module _ (s t : List ℕ) (p : Words 4 s) (q : Words 4 t) where
   unfolding inside_each
   inside-four = and-four (within 0) (within 1) (within 2) (within 3) ∙ sym (ap₂ inside_each (quad_is s p) (quad_is t q)) ∙ inside-set 4 s t p q
 
-  pub same-four : pointwise eqb s t ≡ eqb (as_set s) (as_set t)
+  abbrev equal : ℕ → Bool
+  equal i = eqb (get_or s i 0) (get_or t i 0)
+
+  pub same-four : (((equal 0 && equal 1) && equal 2) && equal 3) ≡ eqb (as_set s) (as_set t)
   unfolding same_each
-  same-four = ap₂ (pointwise eqb) (quad_is s p) (quad_is t q) ∙ sym (ap₂ same_each (quad_is s p) (quad_is t q)) ∙ same_set 4 s t p q
+  same-four = and-four (equal 0) (equal 1) (equal 2) (equal 3) ∙ sym (ap₂ same_each (quad_is s p) (quad_is t q)) ∙ same_set 4 s t p q
 
 module _ (s : List ℕ) (p : Words 4 s) where
   pub none-four : pointwise eqb s (0 ∷ 0 ∷ 0 ∷ 0 ∷ []) ≡ eqb (as_set s) empty_set

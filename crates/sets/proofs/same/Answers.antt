@@ -1,6 +1,5 @@
-use mathlib.Core.Path.{◌∙◌}
 use Rattle.sets.proofs.Laws.Four.{array-words, same-four}
 use Rattle.sets.proofs.same.Goals as goal
 
 pub returns : goal.returns
-returns c = c.eq.ensures ∙ same-four c.args.s c.args.t (array-words c.args.s _ c.well_formed.0) (array-words c.args.t _ c.well_formed.1.0)
+returns c = same-four c.args.s c.args.t (array-words c.args.s _ c.well_formed.0) (array-words c.args.t _ c.well_formed.1.0)

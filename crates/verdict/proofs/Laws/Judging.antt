@@ -26,7 +26,7 @@ use Rattle.std.specs.Prelude.{Result}
 use Rattle.steps.specs.declared.BadStep.{BadStep}
 use Rattle.steps.specs.declared.Outcome.{Outcome}
 use Rattle.lines.specs.Lines.{line_of, written, with_line}
-use Rattle.verdict.specs.Judging.{judged_line, judged_model, judged_tables}
+use Rattle.verdict.specs.Judging.{judged_line, judged_model, judged_tables, judged_state}
 use Rattle.lines.specs.declared.line.Verdict.{Verdict}
 use Rattle.std.specs.Prelude.{Option}
 
@@ -46,6 +46,10 @@ module _ (t : Tables) (text : List ℕ) (lent : long t ≡ true) where
   unfolding judged_tables
   tables-are records = rw lent
 
+  state-is : (records : List ℕ) → judged_state t text records ≡ state_of (judged_model (load text) records)
+  unfolding judged_state
+  state-is records = rw lent
+
 abbrev Loading : Tables → List ℕ → Tables → State → LoadAnswer → Type 0
 Loading t text t₁ s a = ◌≡◌ {A = AfterLoad} (record { tables = t₁; state = s; answer = a }) (load_of t text)
 
@@ -54,6 +58,9 @@ answer-of x = x.answer
 
 abbrev tables-of : AfterLoad → Tables
 tables-of x = x.tables
+
+abbrev state-in : AfterLoad → State
+state-in x = x.state
 
 refused-is : {a b c d : ℕ} → LoadAnswer.Refused a b ≡ LoadAnswer.Refused c d → (a ≡ c) × (b ≡ d)
 refused-is h = (cc, cc)
@@ -64,10 +71,10 @@ not-both h = let z : ◌≡◌ {A = ℕ} 0 1 = cc in omega arith
 -- the outcome of a text, by what the calculus reads
 module _ (t : Tables) (text records : List ℕ) (t₁ : Tables) where
   refused-on : (o : Reading.Loaded) (s : State) (line number : ℕ) → ◌≡◌ {A = AfterLoad} (record { tables = t₁; state = s; answer = LoadAnswer.Refused line number }) (loaded_on t o)
-      → (formula_line line number ≡ printed o records) × (t₁ ≡ spread (judged_model o records) t)
+      → (formula_line line number ≡ printed o records) × (t₁ ≡ spread (judged_model o records) t) × (s ≡ state_of (judged_model o records))
   unfolding loaded_on load_answer loaded_model printed judged_model
   refused-on (accepted φ) s line number e = absurd (not-both (sym (ap answer-of e)))
-  refused-on (refused l n) s line number e = let same = refused-is (ap answer-of e) in (rw (same.0, same.1) refl, ap tables-of e)
+  refused-on (refused l n) s line number e = let same = refused-is (ap answer-of e) in (rw (same.0, same.1) refl, ap tables-of e, ap state-in e)
 
   accepted-on : (o : Reading.Loaded) (s : State) → ◌≡◌ {A = AfterLoad} (record { tables = t₁; state = s; answer = LoadAnswer.Accepted }) (loaded_on t o)
       → (φ : Formula) × (o ≡ accepted φ) × (t₁ ≡ spread (model_of φ) t) × (s ≡ state_of (model_of φ))
@@ -77,27 +84,27 @@ module _ (t : Tables) (text records : List ℕ) (t₁ : Tables) where
 
   -- where a table is lent too short
   refused-short : (s : State) (line number : ℕ) → long t ≡ false → Loading t text t₁ s (LoadAnswer.Refused line number)
-      → (formula_line line number ≡ judged_line t text records) × (t₁ ≡ judged_tables t text records)
-  unfolding load_of load_short judged_line judged_tables
+      → (formula_line line number ≡ judged_line t text records) × (t₁ ≡ judged_tables t text records) × (s ≡ judged_state t text records)
+  unfolding load_of load_short judged_line judged_tables judged_state
   refused-short s line number short e =
       let e' : ◌≡◌ {A = AfterLoad} (record { tables = t₁; state = s; answer = LoadAnswer.Refused line number }) (load_short t) = rw short at e in
       let same = refused-is (ap answer-of e') in
-      rw short (rw (same.0, same.1) refl, ap tables-of e')
+      rw short (rw (same.0, same.1) refl, ap tables-of e', ap state-in e')
 
   refused-long : (s : State) (line number : ℕ) → long t ≡ true → Loading t text t₁ s (LoadAnswer.Refused line number)
-      → (formula_line line number ≡ judged_line t text records) × (t₁ ≡ judged_tables t text records)
+      → (formula_line line number ≡ judged_line t text records) × (t₁ ≡ judged_tables t text records) × (s ≡ judged_state t text records)
   refused-long s line number lent e =
       let r = refused-on (load text) s line number (e ∙ load_is t text lent) in
-      (r.0 ∙ sym (line-is t text lent records), r.1 ∙ sym (tables-are t text lent records))
+      (r.0 ∙ sym (line-is t text lent records), r.1 ∙ sym (tables-are t text lent records), r.2 ∙ sym (state-is t text lent records))
 
   refused-any : (b : Bool) → long t ≡ b → (s : State) (line number : ℕ) → Loading t text t₁ s (LoadAnswer.Refused line number)
-      → (formula_line line number ≡ judged_line t text records) × (t₁ ≡ judged_tables t text records)
+      → (formula_line line number ≡ judged_line t text records) × (t₁ ≡ judged_tables t text records) × (s ≡ judged_state t text records)
   refused-any true h s line number e = refused-long s line number h e
   refused-any false h s line number e = refused-short s line number h e
 
   -- a text that is refused
   pub judged-refused : {s : State} {a : LoadAnswer} (line number : ℕ) → Loading t text t₁ s a → a ≡ LoadAnswer.Refused line number
-      → (line_of (Verdict.Formula line number) ≡ judged_line t text records) × (t₁ ≡ judged_tables t text records)
+      → (line_of (Verdict.Formula line number) ≡ judged_line t text records) × (t₁ ≡ judged_tables t text records) × (s ≡ judged_state t text records)
   unfolding line_of
   judged-refused {s} line number e q = refused-any (long t) refl s line number (rw q at e)
 
@@ -122,7 +129,7 @@ Running t s records t₂ s₂ v = ◌≡◌ {A = AfterRun} (record { tables = t�
 -- the run behind an accepted load
 run-loaded : (t : Tables) (records : List ℕ) (φ : Formula) → Valid Limits.tables (model_of φ) → long t ≡ true → {t₁ t₂ : Tables} {s s₂ : State} {w : Run.Verdict}
     → t₁ ≡ spread (model_of φ) t → s ≡ state_of (model_of φ) → Running t₁ s records t₂ s₂ w
-    → (verdict_line w ≡ printed (accepted φ) records) × (t₂ ≡ spread (judged_model (accepted φ) records) t)
+    → (verdict_line w ≡ printed (accepted φ) records) × (t₂ ≡ spread (judged_model (accepted φ) records) t) × (s₂ ≡ state_of (judged_model (accepted φ) records))
 unfolding ran_on printed judged_model
 run-loaded t records φ v lent {t₁} {t₂} {s} {s₂} {w} p q e =
     let over : Running (spread (model_of φ) t) (state_of (model_of φ)) records t₂ s₂ w = rw (p, q) at e in
@@ -130,11 +137,12 @@ run-loaded t records φ v lent {t₁} {t₂} {s} {s₂} {w} p q e =
     let ran = Run.run Limits.tables (model_of φ) records in (
       ap (λ (x : AfterRun). verdict_line x.answer) whole,
       ap (λ (x : AfterRun). x.tables) whole ∙ (last-counts (model_of φ) v t).0 ran.model,
+      ap (λ (x : AfterRun). x.state) whole,
     )
 
 -- a text that is accepted, and its run
 pub judged-ran : (t : Tables) (text records : List ℕ) {t₁ t₂ : Tables} {s s₂ : State} {l : LoadAnswer} {w : Run.Verdict} → Loading t text t₁ s l → l ≡ LoadAnswer.Accepted
-    → Running t₁ s records t₂ s₂ w → (verdict_line w ≡ judged_line t text records) × (t₂ ≡ judged_tables t text records)
+    → Running t₁ s records t₂ s₂ w → (verdict_line w ≡ judged_line t text records) × (t₂ ≡ judged_tables t text records) × (s₂ ≡ judged_state t text records)
 judged-ran t text records {t₁} {t₂} {s} {s₂} {l} {w} e q r =
     let e' : Loading t text t₁ s LoadAnswer.Accepted = rw q at e in
     let lent = accepted-lent t text (long t) refl e' in
@@ -142,13 +150,14 @@ judged-ran t text records {t₁} {t₂} {s} {s₂} {l} {w} e q r =
     let out = run-loaded t records φ (load-valid text φ reads) lent p h r in (
       out.0 ∙ ap (λ (o : Reading.Loaded). printed o records) (sym reads) ∙ sym (line-is t text lent records),
       out.1 ∙ ap (λ (o : Reading.Loaded). spread (judged_model o records) t) (sym reads) ∙ sym (tables-are t text lent records),
+      out.2 ∙ ap (λ (o : Reading.Loaded). state_of (judged_model o records)) (sym reads) ∙ sym (state-is t text lent records),
     )
 
 -- the same of a verdict that is told
-pub ran-told : (a : Result Outcome BadStep) (v : Verdict) {L : List ℕ} {P : Type 0} → (verdict_line (run_told a) ≡ L) × P → line_of v ≡ verdict_line (run_told a) → (line_of v ≡ L) × P
-ran-told a v h e = (e ∙ h.0, h.1)
+pub ran-told : (a : Result Outcome BadStep) (v : Verdict) {L : List ℕ} {P Q : Type 0} → (verdict_line (run_told a) ≡ L) × P × Q → line_of v ≡ verdict_line (run_told a) → (line_of v ≡ L) × P × Q
+ran-told a v h e = (e ∙ h.0, h.1, h.2)
 
 -- a line that is written
-pub line-written : (v : Verdict) {w : Option ℕ} (L out : List ℕ) {out' : List ℕ} {P : Type 0} → (line_of v ≡ L) × P → (w ≡ written (line_of v) out) × (out' ≡ with_line (line_of v) out)
-    → (w ≡ written L out) × (out' ≡ with_line L out) × P
-line-written v L out h e = (e.0 ∙ ap (λ (line : List ℕ). written line out) h.0, e.1 ∙ ap (λ (line : List ℕ). with_line line out) h.0, h.1)
+pub line-written : (v : Verdict) {w : Option ℕ} (L out : List ℕ) {out' : List ℕ} {P Q : Type 0} → (line_of v ≡ L) × P × Q → (w ≡ written (line_of v) out) × (out' ≡ with_line (line_of v) out)
+    → (w ≡ written L out) × (out' ≡ with_line L out) × P × Q
+line-written v L out h e = (e.0 ∙ ap (λ (line : List ℕ). written line out) h.0, e.1 ∙ ap (λ (line : List ℕ). with_line line out) h.0, h.1, h.2)

@@ -45,4 +45,4 @@ loop-i-preserved c =
     ]
 
 pub returns : goal.returns
-returns c = listing-done _ c.loop-i.invariant.1 c.loop-i-test.false
+returns c = let l = c.loop-i.invariant.1 in (l.inside, listing-done _ l c.loop-i-test.false)

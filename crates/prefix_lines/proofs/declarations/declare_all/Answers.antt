@@ -1,4 +1,3 @@
-use Rattle.std.proofs.lemmas.Result.{err_from_is_err_and}
 use mathlib.Core.Path.{refl, ◌∙◌}
 use native.Mathlib.Omega.{arith}
 use Rattle.tables.proofs.Laws.Lent.{same-loans, loans-then}
@@ -17,10 +16,9 @@ loop-variable-init c = record {
   read = λ t r p h inside. all_start c.args.universal c.args.variables.now t r inside h;
 }
 
-pub returns-in_err-declare_one-clause-read : goal.returns-in_err-declare_one-clause-read
-returns-in_err-declare_one-clause-read c =
-    let p = err_from_is_err_and c.from_residual.result c.from_residual.ensures.1 in
-    λ t r q h inside. rw (p.1, p.2) (all-refused _ _ t r c.loop-variable.variable-index c.loop-variable-test.true (c.loop-variable.invariant.read t r q h inside) (λ r'. c.declare_one.ensures.read t r' q) (rw c.in_err-declare_one.was))
+pub returns-in-Err-clause-read : goal.returns-in-Err-clause-read
+returns-in-Err-clause-read c =
+    λ t r q h inside. all-refused _ _ t r c.loop-variable.variable-index c.loop-variable-test.true (c.loop-variable.invariant.read t r q h inside) (λ r'. c.declare_one.ensures.read t r' q) (rw c.in-Err.is)
 
 pub loop-variable-preserved : goal.loop-variable-preserved
 loop-variable-preserved c =
@@ -33,7 +31,7 @@ loop-variable-preserved c =
       bound = d.counts.bound ∙ i.bound;
       more = omega (arith, d.counts.universals, i.more);
       few = d.counts.few;
-      read = λ t r p h inside. all-next _ _ t r c.loop-variable.variable-index c.loop-variable-test.true (i.read t r p h inside) (λ r'. d.read t r' p) (rw c.in_ok-declare_one.was);
+      read = λ t r p h inside. all-next _ _ t r c.loop-variable.variable-index c.loop-variable-test.true (i.read t r p h inside) (λ r'. d.read t r' p) (rw c.in_default.is);
     }
 
 pub returns-clause-read : goal.returns-clause-read

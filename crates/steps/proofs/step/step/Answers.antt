@@ -1,20 +1,24 @@
 -- `step::step` meets its contract.
-use Rattle.std.proofs.lemmas.Result.{err_from_is_err_and}
 use Rattle.steps.proofs.Laws.Calls.{step-unusable, holding, step-examined}
+use Rattle.steps.proofs.Laws.Decoded.{bytes-malformed, bytes-examined}
 use Rattle.steps.proofs.step.step.Goals as goal
 
-pub returns-in_err-usable-clause-after : goal.returns-in_err-usable-clause-after
-returns-in_err-usable-clause-after c =
-    let p = err_from_is_err_and c.from_residual.result c.from_residual.ensures.1 in
-    let refused = rw (c.view-lent.ensures.tables, c.view-lent.ensures.state) at c.in_err-usable.ensures in
-    rw (p.1, p.2) (step-unusable _ _ _ refused)
+pub returns-in-Err-clause-after : goal.returns-in-Err-clause-after
+returns-in-Err-clause-after c =
+    let told = rw (c.view-lent.ensures.tables, c.view-lent.ensures.state, c.in-Err.is) at c.usable.ensures in
+    step-unusable _ _ _ told
 
-pub examine_record-requires : goal.examine_record-requires
-examine_record-requires c =
-    let usable = rw (c.view-lent.ensures.tables, c.view-lent.ensures.state) at c.in_ok-usable.ensures in
+pub returns-in_default-decode-clause-after : goal.returns-in_default-decode-clause-after
+returns-in_default-decode-clause-after c =
+    let usable = rw (c.view-lent.ensures.tables, c.view-lent.ensures.state, c.in_default.is) at c.usable.ensures in
+    step-examined _ _ c.args.bytes.now usable (bytes-malformed _ _ (holding _ _ c.args.bytes.now usable) _ c.decode.ensures c.in_default-decode.is)
+
+pub examine-requires : goal.examine-requires
+examine-requires c =
+    let usable = rw (c.view-lent.ensures.tables, c.view-lent.ensures.state, c.in_default.is) at c.usable.ensures in
     holding _ _ c.args.bytes.now usable
 
 pub returns-clause-after : goal.returns-clause-after
 returns-clause-after c =
-    let usable = rw (c.view-lent.ensures.tables, c.view-lent.ensures.state) at c.in_ok-usable.ensures in
-    step-examined _ _ c.args.bytes.now usable c.examine_record.ensures.after
+    let usable = rw (c.view-lent.ensures.tables, c.view-lent.ensures.state, c.in_default.is) at c.usable.ensures in
+    step-examined _ _ c.args.bytes.now usable (bytes-examined _ _ (holding _ _ c.args.bytes.now usable) _ c.decode.ensures _ c.in-Some.is c.examine.ensures.after)

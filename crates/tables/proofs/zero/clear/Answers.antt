@@ -1,8 +1,8 @@
--- `LentMut::clear` meets its contract.
+-- `zero::clear` meets its contract.
 use Rattle.tables.proofs.Laws.Formed.{long-is}
 use Rattle.tables.proofs.Laws.Lent.{long-words, cleared-sets, cleared-spare}
 use Rattle.tables.proofs.Laws.Zeros.{cleared-tables}
-use Rattle.tables.proofs.LentMut.clear.Goals as goal
+use Rattle.tables.proofs.zero.clear.Goals as goal
 
 pub fill_front-requires-clause-room : goal.fill_front-requires-clause-room
 fill_front-requires-clause-room c = (long-is _ c.requires).literals
